@@ -1,0 +1,12 @@
+pub mod Bettors
+pub mod Examples
+pub mod Faults
+pub mod Ledger
+pub mod Plans
+pub mod Rules
+pub mod States
+pub mod Tables
+pub mod Tallies
+pub mod Units
+pub mod View
+pub mod Weights
