@@ -1,0 +1,10 @@
+use mathlib.Core.List.{[], _∷_}
+use mathlib.Core.Path.{refl}
+use Rattle.plantlog.specs.Format.{End}
+use Rattle.plantlog.proofs.WriteBack.{wrote}
+use Rattle.plantlog.proofs.writer.write_end.Needs as need
+
+pub returns : need.returns
+returns c =
+    let put = c .put-record .ensures in
+    wrote (End (c .args .counts)) (c .args .counts ∷ []) (c .put-record .result) (c .put-record .last .out) (c .args .out .now) refl refl (put .small) (put .value) (put .after)

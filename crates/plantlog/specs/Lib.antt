@@ -1,0 +1,15 @@
+pub mod Bytes
+pub mod Results
+pub mod NumberFaults
+pub mod Numbers
+pub mod NumberLimits
+pub mod RecordFaults
+pub mod Choices
+pub mod Format
+pub mod FirstRecord
+pub mod Views
+pub mod Calls
+pub mod Position
+pub mod Slips
+pub mod Written
+pub mod Laws
