@@ -1,0 +1,11 @@
+pub mod Appends
+pub mod Counting
+pub mod Courses
+pub mod Ends
+pub mod Fronts
+pub mod Opens
+pub mod Reckoned
+pub mod Rises
+pub mod Rounds
+pub mod Steps
+pub mod Streams

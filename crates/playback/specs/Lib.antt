@@ -1,0 +1,13 @@
+pub mod Course
+pub mod Figures
+pub mod Front
+pub mod Held
+pub mod Listing
+pub mod Replayed
+pub mod Replaying
+pub mod Rising
+pub mod Stepping
+pub mod Stops
+pub mod Stream
+pub mod Told
+pub mod Watch

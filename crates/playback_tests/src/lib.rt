@@ -1,0 +1,3 @@
+// Tests of the replay and its listing.
+#[cfg(test)]
+mod listings;
