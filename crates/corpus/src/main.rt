@@ -1,4 +1,6 @@
 // Reads logs in lowercase hexadecimal, one a line, and prints each with the listing of its replay.
+#![tactic(auto)]
+
 use daybook::book::Book;
 use daybook::entry::alarm::Alarm;
 use daybook::entry::unwatched::Unwatched;

@@ -1,4 +1,6 @@
 // Books of dated entries, and the lines of a listing.
+#![tactic(auto)]
+
 pub mod book;
 pub mod entry;
 pub mod fault;

@@ -1,4 +1,6 @@
 // Bettors, restart rules and the ledger of a restarted-bet change monitor.
+#![tactic(auto)]
+
 pub mod adaptive;
 pub mod bettor;
 pub mod fault;

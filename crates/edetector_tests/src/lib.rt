@@ -1,4 +1,6 @@
 // Tests of the tables, bettors, rules and monitor.
+#![tactic(auto)]
+
 use edetector::fixed::Fixed;
 use edetector::table::{AlternativeTable, NullTable};
 use edetector::units::Weight;

@@ -1,4 +1,6 @@
 // The plant log: numbers, records, a reader and a writer.
+#![tactic(auto)]
+
 pub mod fault;
 mod field;
 mod guard;

@@ -1,4 +1,6 @@
 // Writes a small log, reads it back and prints its records.
+#![tactic(auto)]
+
 use edetector::units::Weight;
 use plantlog::fault::RecordFault;
 use plantlog::reader::Reader;

@@ -1,4 +1,6 @@
 // Tests of the plant log: each refusal with a small input that gives it, beside one that does not.
+#![tactic(auto)]
+
 mod calls;
 mod numbers;
 mod records;

@@ -1,4 +1,6 @@
 // The replay of a log.
+#![tactic(auto)]
+
 mod count;
 mod header;
 pub mod listing;

@@ -1,3 +1,5 @@
 // Tests of the replay and its listing.
+#![tactic(auto)]
+
 #[cfg(test)]
 mod listings;

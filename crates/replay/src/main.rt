@@ -1,4 +1,6 @@
 // Reads a log from standard input and prints the listing of its replay.
+#![tactic(auto)]
+
 use daybook::book::Book;
 use daybook::entry::alarm::Alarm;
 use daybook::entry::unwatched::Unwatched;

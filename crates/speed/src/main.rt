@@ -2,6 +2,8 @@
 //
 // The words are `replay` or `read`, and how many times. What came of it goes to standard output, the time in nanoseconds
 // to standard error.
+#![tactic(auto)]
+
 use daybook::book::Book;
 use daybook::entry::alarm::Alarm;
 use daybook::entry::unwatched::Unwatched;

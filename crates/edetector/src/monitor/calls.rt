@@ -21,7 +21,7 @@ const MOST_ROUNDS: u32 = 1000000;
 
 // The row that is staked.
 fn staked_row<B: Bettor>(bettor: &B) -> Row
-    ensures { (k : ℕ) → slice_index (factors_in result) k ≡ slice_index (strategy bettor.now []) k }
+    ensures { (k : ℕ) → slice_index (factors_in result) k ≡ slice_index (B.strategy bettor.now []) k }
 {
     bettor.row()
 }
@@ -39,8 +39,8 @@ fn grown(base: Base, factor: Factor) -> Wealth
 impl<B: Bettor, R: RestartRule> Monitor<B, R> {
     // Whatever the bettor, the rule and the plan of calls, the alarms are bounded.
     pub fn new(bettor: B, rule: R, threshold: u32, tag: u32) -> Result<Monitor<B, R>, Unmade<B, R>>
-        ensures made { Made nulls strategy base bettor rule threshold tag result }
-        ensures bound { Bound (terms (nulls bettor) (base rule) threshold tag) (strategy bettor) }
+        ensures made { Made B.nulls B.strategy R.base bettor rule threshold tag result }
+        ensures bound { Bound (terms (B.nulls bettor) (R.base rule) threshold tag) (B.strategy bettor) }
     {
         if threshold < 1 || threshold > 4096 {
             return Err(Unmade {
@@ -67,8 +67,8 @@ impl<B: Bettor, R: RestartRule> Monitor<B, R> {
 
     // Copies the row now, before any count is seen.
     pub fn stake(&mut self) -> Result<OpenSlip, MonitorFault>
-        ensures does { outcome result (view nulls strategy self.new) ≡ staking (terms_of nulls base self.old) (view nulls strategy self.old) }
-        ensures same { terms_of nulls base self.new ≡ terms_of nulls base self.old }
+        ensures does { outcome result (view B.nulls B.strategy self.new) ≡ staking (terms_of B.nulls R.base self.old) (view B.nulls B.strategy self.old) }
+        ensures same { terms_of B.nulls R.base self.new ≡ terms_of B.nulls R.base self.old }
         ensures refused { Unchanged result self.old self.new }
     {
         match self.state {
@@ -88,8 +88,8 @@ impl<B: Bettor, R: RestartRule> Monitor<B, R> {
 
     // The staked factor is read before the bettor learns the class.
     pub fn settle(&mut self, slip: ShownSlip) -> Result<bool, Refused<ShownSlip>>
-        ensures does { outcome result (view nulls strategy self.new) ≡ settling (terms_of nulls base self.old) (view nulls strategy self.old) slip }
-        ensures same { terms_of nulls base self.new ≡ terms_of nulls base self.old }
+        ensures does { outcome result (view B.nulls B.strategy self.new) ≡ settling (terms_of B.nulls R.base self.old) (view B.nulls B.strategy self.old) slip }
+        ensures same { terms_of B.nulls R.base self.new ≡ terms_of B.nulls R.base self.old }
         ensures refused { Unchanged result self.old self.new }
     {
         if !self.waits_for(slip.tag, slip.number) {
@@ -118,8 +118,8 @@ impl<B: Bettor, R: RestartRule> Monitor<B, R> {
     }
 
     pub fn withdraw(&mut self, slip: OpenSlip) -> Result<(), Refused<OpenSlip>>
-        ensures does { outcome result (view nulls strategy self.new) ≡ withdrawing (terms_of nulls base self.old) (view nulls strategy self.old) slip }
-        ensures same { terms_of nulls base self.new ≡ terms_of nulls base self.old }
+        ensures does { outcome result (view B.nulls B.strategy self.new) ≡ withdrawing (terms_of B.nulls R.base self.old) (view B.nulls B.strategy self.old) slip }
+        ensures same { terms_of B.nulls R.base self.new ≡ terms_of B.nulls R.base self.old }
         ensures refused { Unchanged result self.old self.new }
     {
         if !self.waits_for(slip.tag, slip.number) {
@@ -134,8 +134,8 @@ impl<B: Bettor, R: RestartRule> Monitor<B, R> {
     }
 
     pub fn rearm(&mut self) -> Result<(), MonitorFault>
-        ensures does { outcome result (view nulls strategy self.new) ≡ rearming (terms_of nulls base self.old) (view nulls strategy self.old) }
-        ensures same { terms_of nulls base self.new ≡ terms_of nulls base self.old }
+        ensures does { outcome result (view B.nulls B.strategy self.new) ≡ rearming (terms_of B.nulls R.base self.old) (view B.nulls B.strategy self.old) }
+        ensures same { terms_of B.nulls R.base self.new ≡ terms_of B.nulls R.base self.old }
         ensures refused { Unchanged result self.old self.new }
     {
         match self.state {
@@ -151,7 +151,7 @@ impl<B: Bettor, R: RestartRule> Monitor<B, R> {
     }
 
     pub fn read(&self) -> Reading
-        ensures { outcome (told_by result) (view nulls strategy self.now) ≡ reading (terms_of nulls base self.now) (view nulls strategy self.now) }
+        ensures { outcome (told_by result) (view B.nulls B.strategy self.now) ≡ reading (terms_of B.nulls R.base self.now) (view B.nulls B.strategy self.now) }
     {
         Reading {
             state: self.state,
@@ -162,7 +162,7 @@ impl<B: Bettor, R: RestartRule> Monitor<B, R> {
     }
 
     fn waits_for(&self, tag: u32, number: u32) -> bool
-        ensures { result ≡ fitting (terms_of nulls base self.now) (view nulls strategy self.now) tag number }
+        ensures { result ≡ fitting (terms_of B.nulls R.base self.now) (view B.nulls B.strategy self.now) tag number }
     {
         match self.state {
             State::Staked => tag == self.tag && number == self.rounds + 1,

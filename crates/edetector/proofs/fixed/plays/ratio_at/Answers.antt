@@ -18,4 +18,4 @@ likelihood-ratio-requires c =
     }
 
 pub returns : goal.returns
-returns c = c.likelihood-ratio.ensures ∙ factor_is c.args.null.now c.args.alternative.now c.requires c.args.class c.if-class-null.false
+returns c = c.likelihood_ratio.ensures ∙ factor_is c.args.null.now c.args.alternative.now c.requires c.args.class c.if-class-null.false

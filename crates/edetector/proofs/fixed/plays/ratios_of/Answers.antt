@@ -10,7 +10,7 @@ use Rattle.edetector.proofs.fixed.plays.ratios_of.Goals as goal
 pub loop-k-preserved : goal.loop-k-preserved
 loop-k-preserved c =
     let row = fixed (null_weights c.args.null.now) (alternative_weights c.args.alternative.now) [] in
-    fill_more c.loop-k.row (λ k. get_or row k 0) c.loop-k.k c.ratio-at.result c.loop-k.invariant (omega arith) c.ratio-at.ensures
+    fill_more c.loop-k.row (λ k. get_or row k 0) c.loop-k.k c.ratio_at.result c.loop-k.invariant (omega arith) c.ratio_at.ensures
 
 pub returns : goal.returns
 returns c =

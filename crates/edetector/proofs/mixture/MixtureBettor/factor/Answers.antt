@@ -13,6 +13,6 @@ overflow-add-result g c =
 pub returns : goal.returns
 returns g c =
     let m = c.args.self.now in
-    let same = sym c.same-tables.ensures ∙ c.if-not-same-tables.false in
+    let same = sym c.same_tables.ensures ∙ c.if-not-same_tables.false in
     ap₂ (λ x y. (x + y) / 2) c.factor-f.ensures c.factor-g.ensures
     ∙ sym (mixed_at _ _ _ _ (g.met.F.Bettor.whole m.first []) (g.met.S.Bettor.whole m.second []) c.args.class same)

@@ -7,8 +7,8 @@ pub averaged-requires : goal.averaged-requires
 averaged-requires g c =
     let m = c.args.self.now in
     record {
-      f-small = λ k. omega (arith, c.row-row.ensures k, small_row _ _ (g.met.F.Bettor.table m.first) (g.met.F.Bettor.fair m.first []) (g.met.F.Bettor.whole m.first []) k);
-      g-small = λ k. omega (arith, c.row.ensures k, small_row _ _ (g.met.S.Bettor.table m.second) (g.met.S.Bettor.fair m.second []) (g.met.S.Bettor.whole m.second []) k);
+      f_small = λ k. omega (arith, c.row-row.ensures k, small_row _ _ (g.met.F.Bettor.table m.first) (g.met.F.Bettor.fair m.first []) (g.met.F.Bettor.whole m.first []) k);
+      g_small = λ k. omega (arith, c.row.ensures k, small_row _ _ (g.met.S.Bettor.table m.second) (g.met.S.Bettor.fair m.second []) (g.met.S.Bettor.whole m.second []) k);
     }
 
 pub returns-then-same-tables : goal.returns-then-same-tables

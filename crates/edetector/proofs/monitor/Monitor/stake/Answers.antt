@@ -15,9 +15,9 @@ pub returns : goal.returns
 returns g c =
     let m = c.args.self.now in
     let b = m.bettor in
-    let copied = row_copied c.staked-row-self.result (g.B.Bettor.nulls b) (g.B.Bettor.strategy b []) (omega arith) (g.met.B.Bettor.table b).few (g.met.B.Bettor.whole b []) c.staked-row-self.ensures in
+    let copied = row_copied c.staked_row-self.result (g.B.Bettor.nulls b) (g.B.Bettor.strategy b []) (omega arith) (g.met.B.Bettor.table b).few (g.met.B.Bettor.whole b []) c.staked_row-self.ensures in
     record {
-      does = stake_done (terms_of g.B.Bettor.nulls g.R.RestartRule.base m) m.state m.ledger.parts m.rounds m.alarms _ _ (g.B.Bettor.strategy b) c.in-Armed.is c.if-self-ge-MOST-ROUNDS.false copied;
+      does = stake_done (terms_of g.B.Bettor.nulls g.R.RestartRule.base m) m.state m.ledger.parts m.rounds m.alarms _ _ (g.B.Bettor.strategy b) c.in-Armed.is c.if-self-ge-MOST_ROUNDS.false copied;
       same = refl;
       refused = tt;
     }

@@ -19,7 +19,7 @@ likelihood-ratio-requires c =
     }
 
 pub returns : goal.returns
-returns c = c.likelihood-ratio.ensures ∙ factor_is c.args.self.now c.args.class c.if-class-self.false
+returns c = c.likelihood_ratio.ensures ∙ factor_is c.args.self.now c.args.class c.if-class-self.false
 
 pub overflow-add-a : goal.overflow-add-a
 overflow-add-a c =

@@ -4,7 +4,7 @@ use Rattle.edetector.specs.Weights.{null_weights}
 use Rattle.edetector.specs.Held.{null_long}
 use Rattle.edetector.specs.Tallying.{count_part, tally_more, learns, learns_nothing}
 use Rattle.edetector.proofs.adaptive.plays.AdaptiveBettor.learn.Goals as goal
-use Rattle.edetector.proofs.adaptive.plays.AdaptiveBettor.learn.Goals.{else-class-self-via-then-class-self+else-self-lt-MOST-TALLIED, else-class-self-via-else-class-self}
+use Rattle.edetector.proofs.adaptive.plays.AdaptiveBettor.learn.Goals.{else-class-self-via-then-class-self+else-self-lt-MOST_TALLIED, else-class-self-via-else-class-self}
 
 pub overflow-add-self : goal.overflow-add-self
 overflow-add-self c = omega (arith, count_part c.args.self.now c.args.class c.if-class-self.true, c.args.self.now.capped)
@@ -29,7 +29,7 @@ returns-else-class-self c =
     let b = c.args.self.now in
     let full : c.args.class < b.null.table.classes → b.seen < 1000000 → ⊥ =
     λ within room. elim c.else-class-self.branch [
-      | else-class-self-via-then-class-self+else-self-lt-MOST-TALLIED w ↦ omega (arith, w.if-self-lt-MOST-TALLIED.false)
+      | else-class-self-via-then-class-self+else-self-lt-MOST_TALLIED w ↦ omega (arith, w.if-self-lt-MOST_TALLIED.false)
       | else-class-self-via-else-class-self w ↦ omega (arith, w.if-class-self.false)
     ] in
     record {
