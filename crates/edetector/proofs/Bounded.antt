@@ -1,5 +1,5 @@
 -- The bound: A × weighted alarms ≤ weighted settled rounds.
-use Rattle.std.proofs.Common.{◌≡◌, ℕ, zero, suc, ◌+◌, ◌-◌, ◌*◌, ◌/◌, ◌<◌, ◌≤◌, min, Bool, true, false, cond, ◌&&◌, eqb, leb, List, [], ◌∷◌, ◌++◌, length, get_or, Ok, Err, Result, sym, refl, ap, ◌∙◌, subst, ap₂, le_trans, le_refl, mul-le-mul_right, mul_assoc, mul_comm, mul-le-mul_left, one-mul, mul-zero, mul-add, mul_left_comm, arith}
+use Rattle.std.proofs.Common.{◌≡◌, ℕ, zero, suc, ◌+◌, ◌*◌, ◌≤◌, Bool, true, false, cond, ◌&&◌, eqb, leb, List, [], ◌∷◌, ◌++◌, length, Ok, Err, Result, sym, refl, ap, ◌∙◌, ap₂, mul_assoc, mul_comm, mul-le-mul_left, one-mul, mul-zero, mul-add, arith}
 use native.Mathlib.Nat.{le_of_mul-le-mul_left}
 use Rattle.std.proofs.lemmas.Bool.Decides.{nat_tests}
 use Rattle.edetector.specs.declared.state.State.{State}
@@ -11,10 +11,10 @@ use Rattle.edetector.specs.Tables.{weigh, total, Fair, class_of}
 use Rattle.edetector.specs.Rules.{bet}
 use Rattle.edetector.specs.Bettors.{Strategy}
 use Rattle.edetector.specs.Ledger.{Terms, Standing, Outcome, outcome, fresh, settled, rings, grown, while_staked}
-use Rattle.edetector.specs.Plans.{Plan, run, all_called, if_staked, next, heard, rounds_in, alarms_in, weighted_alarms, weighted_rounds, Bound}
+use Rattle.edetector.specs.Plans.{Plan, run, all_called, if_staked, next, heard, rounds_in, alarms_in, Bound}
 use Rattle.edetector.specs.Sums.{weigh_mono, weigh_same, weigh_within, weigh_add, weigh_scale, weigh_const, fair_step}
 use Rattle.edetector.proofs.Sequences.{over_all, weighted_is, mass, mass_more, over_none, over_plus}
-use Rattle.edetector.proofs.Fairness.{potential, potential_at, row_fair, PlaysFair, Sound, Kept, all_kept}
+use Rattle.edetector.proofs.Fairness.{potential, potential_at, row_fair, PlaysFair, Sound, all_kept}
 
 -- an alarm costs a, and what is left of the ledger is the potential
 paid_by : (a m : ℕ) (b : Bool) → (b ≡ true → a ≤ m) → a * cond b 1 0 + potential_at a (cond b Rung Armed) m ≡ m

@@ -1,5 +1,5 @@
 -- The numbers of a likelihood ratio fit their types.
-use Rattle.std.proofs.Common.{◌≡◌, ℕ, ◌*◌, ◌/◌, ◌<◌, ◌≤◌, sym, ap, ◌∙◌, mul-le-mul_right, mul_assoc, mul_comm, mul-le-mul, mul-le-mul_left, mul-pos, arith}
+use Rattle.std.proofs.Common.{◌≡◌, ℕ, ◌*◌, ◌<◌, ◌≤◌, sym, ap, ◌∙◌, mul_assoc, mul_comm, mul-le-mul, mul-le-mul_left, mul-pos, arith}
 use native.Mathlib.Nat.{div-le_of_le-mul}
 use Rattle.edetector.specs.Bettors.{ratio}
 

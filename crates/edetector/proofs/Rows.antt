@@ -1,8 +1,8 @@
 -- The factors of a fair row are small.
-use Rattle.std.proofs.Common.{◌≡◌, ℕ, zero, suc, ◌+◌, ◌*◌, ◌<◌, ◌≤◌, ◌⊎◌, List, [], ◌∷◌, length, get_or, take, set, sym, refl, ap, ◌∙◌, inl, inr, ⊎_elim, le_of_suc-le-suc, not-suc-le-zero, add-zero, add-suc, mul-le-mul_right, mul_comm, suc-add, arith}
+use Rattle.std.proofs.Common.{◌≡◌, ℕ, zero, suc, ◌+◌, ◌*◌, ◌<◌, ◌≤◌, List, [], ◌∷◌, length, get_or, take, set, sym, ap, ◌∙◌, ⊎_elim, le_of_suc-le-suc, not-suc-le-zero, add-zero, mul-le-mul_right, arith}
 use Rattle.std.proofs.lemmas.List.{get_or_past, get_or-take, length-take-le, get_or-set_same, get_or-set_other, ext_get_or}
 use Rattle.std.proofs.lemmas.Bool.{cases_lt, cases_eq}
-use Rattle.edetector.specs.Tables.{weigh, total, Fair, IsNullTable}
+use Rattle.edetector.specs.Tables.{weigh, Fair, IsNullTable}
 
 pub term_le : (ws : List ℕ) (i : ℕ) (f : ℕ → ℕ) (k : ℕ) → k < length ws → get_or ws k 0 * f (i + k) ≤ weigh ws i f
 term_le [] i f k h = absurd (not-suc-le-zero h)

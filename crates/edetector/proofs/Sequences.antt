@@ -1,5 +1,5 @@
 -- Sums over all sequences of classes.
-use Rattle.std.proofs.Common.{◌≡◌, ℕ, zero, suc, ◌+◌, ◌*◌, ◌<◌, ◌≤◌, List, [], ◌∷◌, ◌++◌, map, length, get_or, sym, refl, ap, ◌∙◌, add-zero, mul_assoc, mul-zero, mul-add, arith}
+use Rattle.std.proofs.Common.{◌≡◌, ℕ, zero, suc, ◌+◌, ◌*◌, List, [], ◌∷◌, ◌++◌, map, length, get_or, sym, refl, ap, ◌∙◌, add-zero, mul_assoc, mul-zero, mul-add, arith}
 use Rattle.std.specs.List.{flat_map}
 use Rattle.edetector.specs.Tables.{weigh, total}
 use Rattle.edetector.specs.Plans.{weighted, weight_of, sum_of, sequences, classes_from}

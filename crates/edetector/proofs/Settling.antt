@@ -1,5 +1,5 @@
 -- Stake and settle on plain data.
-use Rattle.std.proofs.Common.{◌≡◌, ℕ, suc, ◌+◌, ◌-◌, ◌*◌, ◌/◌, ◌<◌, ◌≤◌, min, Bool, true, false, cond, ◌&&◌, eqb, ltb, leb, List, [], ◌∷◌, length, get_or, take, Ok, Err, Result, sym, refl, ap, ◌∙◌, arith}
+use Rattle.std.proofs.Common.{◌≡◌, ℕ, ◌+◌, ◌*◌, ◌/◌, ◌<◌, ◌≤◌, Bool, true, cond, ltb, leb, List, [], length, get_or, take, Ok, sym, refl, ap, ◌∙◌, arith}
 use mathlib.Core.Bool.{false≢true}
 use Rattle.std.proofs.lemmas.List.{get_or-take, length-take-le, length-map, ext_get_or}
 use Rattle.std.proofs.lemmas.Bool.Decides.{nat_tests}
@@ -12,9 +12,8 @@ use Rattle.edetector.specs.Tables.{class_of}
 use Rattle.edetector.specs.Rules.{bet}
 use Rattle.edetector.specs.Bettors.{Strategy, after_class, learned}
 use Rattle.edetector.specs.States.{level, lasts}
-use Rattle.edetector.specs.Ledger.{Terms, Standing, outcome, while_staked, fitting, staking, settling}
+use Rattle.edetector.specs.Ledger.{Terms, outcome, while_staked, fitting, staking, settling}
 use Rattle.edetector.specs.View.{terms, standing, row_in}
-use Rattle.edetector.proofs.Copying.{factor_at}
 
 -- the first places of a copied row are the row
 pub row_copied : (row : List Factor) (ws es : List ℕ) → length row ≡ 16 → length ws ≤ 16 → length es ≡ length ws → ((k : ℕ) → get_or (factors_in row) k 0 ≡ get_or es k 0) → take (length ws) (factors_in row) ≡ es

@@ -1,10 +1,10 @@
 -- The adaptive bettor: its rows are whole and fair, and one class learned is one step of its strategy.
 use Rattle.std.specs.Prelude.{◌≡◌, ℕ, zero, suc, ◌+◌, ◌*◌, ◌/◌, ◌<◌, ◌≤◌, Bool, true, false, cond, List, [], ◌∷◌, length, nat_lt, slice_index, slice_set, refl}
-use Rattle.std.proofs.Common.{sym, ap, ap₂, ◌∙◌, subst, mul-le-mul_left, mul-add, mul_assoc, mul_comm, mul_left_comm, mul-zero, add-zero, le_of_suc-le-suc, not-suc-le-zero, arith, length-set}
+use Rattle.std.proofs.Common.{sym, ap, ◌∙◌, mul-le-mul_left, mul-add, mul_assoc, mul_comm, mul_left_comm, mul-zero, add-zero, le_of_suc-le-suc, not-suc-le-zero, arith, length-set}
 use Rattle.std.proofs.Math.Nat.{mul-div-le, le_of_mul-le-mul_left}
 use Rattle.std.proofs.lemmas.Bool.Decides.{nat_tests}
 use Rattle.edetector.specs.Tables.{weigh, total, Fair}
-use Rattle.edetector.specs.Bettors.{Strategy, after_class, learned, ratio, ratios, Tally, one_more, tally_class, tally_all, plus, tally_row, adaptive}
+use Rattle.edetector.specs.Bettors.{Strategy, learned, ratios, Tally, one_more, tally_class, tally_all, plus, adaptive}
 
 pub ratios_long : (w v : ℕ) (ws alts : List ℕ) → length alts ≡ length ws → length (ratios w v ws alts) ≡ length ws
 ratios_long w v [] alts e = refl

@@ -1,10 +1,10 @@
 -- Worked examples, all with the null weights 3, 1.
-use Rattle.std.specs.Prelude.{◌≡◌, ℕ, Bool, true, false, List, [], ◌∷◌}
+use Rattle.std.specs.Prelude.{◌≡◌, ℕ, true, false, List, [], ◌∷◌}
 use Rattle.edetector.specs.Tables.{Fair}
 use Rattle.edetector.specs.Rules.{shiryaev_roberts, page}
 use Rattle.edetector.specs.Bettors.{Strategy, fixed, adaptive, mixture, no_tally}
 use Rattle.edetector.specs.Ledger.{Terms, Standing, fresh, staking}
-use Rattle.edetector.specs.Plans.{Plan, Call, Stake, Rearm, next, run, weighted_alarms, weighted_rounds}
+use Rattle.edetector.specs.Plans.{Plan, Stake, Rearm, next, run, weighted_alarms, weighted_rounds}
 use Rattle.edetector.specs.View.{terms}
 
 abbrev pub nulls_3_1 : List ℕ

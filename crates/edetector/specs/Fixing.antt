@@ -1,11 +1,11 @@
 -- What the two tables of a fixed bettor give.
-use Rattle.std.specs.Prelude.{◌≡◌, ℕ, ◌+◌, ◌*◌, ◌/◌, ◌<◌, ◌≤◌, List, [], length, slice_index, slice_index_or, refl}
-use Rattle.std.proofs.Common.{sym, ap, ap₂, ◌∙◌, arith}
+use Rattle.std.specs.Prelude.{◌≡◌, ℕ, ◌*◌, ◌/◌, ◌<◌, ◌≤◌, [], length, slice_index, slice_index_or}
+use Rattle.std.proofs.Common.{sym, ap₂, ◌∙◌, arith}
 use Rattle.edetector.specs.declared.table.NullTable.{NullTable}
 use Rattle.edetector.specs.declared.table.AlternativeTable.{AlternativeTable}
 use Rattle.edetector.specs.Tables.{total, Fair}
-use Rattle.edetector.specs.Weights.{held_weights, null_weights, alternative_weights}
-use Rattle.edetector.specs.Bettors.{ratio, ratios, fixed}
+use Rattle.edetector.specs.Weights.{null_weights, alternative_weights}
+use Rattle.edetector.specs.Bettors.{ratio, fixed}
 use Rattle.edetector.specs.Lists.{getD_le_total}
 use Rattle.std.proofs.lemmas.List.{get_or_past}
 use Rattle.edetector.specs.Held.{held_long, null_long, weight_read, is_null_table}

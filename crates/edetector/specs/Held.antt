@@ -1,13 +1,13 @@
 -- What the tables' own facts give of the weights that they hold.
-use Rattle.std.specs.Prelude.{◌≡◌, ℕ, ◌+◌, ◌<◌, ◌≤◌, List, map, length, None, slice_index, slice_index_or, refl}
+use Rattle.std.specs.Prelude.{◌≡◌, ℕ, ◌<◌, ◌≤◌, List, length, None, slice_index, slice_index_or, refl}
 use Rattle.std.proofs.Common.{sym, ap, ◌∙◌, arith}
 use Rattle.std.proofs.lemmas.List.{length-take-le, length-map, get_or-take, get_or_past}
 use Rattle.edetector.specs.declared.table.Table.{Table}
 use Rattle.edetector.specs.declared.table.NullTable.{NullTable}
 use Rattle.edetector.specs.Units.{weights_in}
-use Rattle.edetector.specs.Tables.{total, table_fault, IsNullTable}
+use Rattle.edetector.specs.Tables.{table_fault, IsNullTable}
 use Rattle.edetector.specs.Weights.{held_weights, null_weights}
-use Rattle.edetector.specs.Lists.{getD_le_total, number_at}
+use Rattle.edetector.specs.Lists.{number_at}
 use Rattle.edetector.specs.Limits.{each_least}
 
 pub held_long : (t : Table) → length (held_weights t) ≡ t.classes

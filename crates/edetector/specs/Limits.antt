@@ -1,9 +1,8 @@
 -- When a table breaks which limit.
-use Rattle.std.specs.Prelude.{◌≡◌, ℕ, zero, suc, ◌+◌, ◌<◌, ◌≤◌, Bool, true, false, cond, ◌&&◌, ◌⊎◌, List, [], ◌∷◌, length, Some, None, Option, slice_index, refl}
-use Rattle.std.proofs.Common.{sym, ap, ◌∙◌, inl, inr, ⊎_elim, le_of_suc-le-suc, not-suc-le-zero, arith}
+use Rattle.std.specs.Prelude.{◌≡◌, ℕ, zero, suc, ◌<◌, ◌≤◌, Bool, true, false, cond, ◌⊎◌, List, [], ◌∷◌, length, Some, None, slice_index, refl}
+use Rattle.std.proofs.Common.{inl, inr, le_of_suc-le-suc, not-suc-le-zero, arith}
 use Rattle.std.proofs.lemmas.Bool.Decides.{nat_tests}
 use Rattle.std.proofs.lemmas.Bool.{and_parts, and_from, and_left, and_right, leb-true}
-use Rattle.edetector.specs.declared.value.ValueFault.{ValueFault}
 use Rattle.edetector.specs.declared.value.ValueFault.TheVariants.{Classes, Weight, Total}
 use Rattle.edetector.specs.Tables.{total, from_to, weights_within, table_fault}
 

@@ -1,11 +1,10 @@
 -- What a mixture keeps.
 use Rattle.std.specs.Prelude.{◌≡◌, ℕ, zero, suc, ◌+◌, ◌*◌, ◌/◌, ◌<◌, ◌≤◌, Bool, true, false, cond, ◌&&◌, List, [], ◌∷◌, length, ◌==◌, ◌≢◌, nat_eq, nat_lt, slice_index, slice_index_or, refl}
 use Rattle.std.proofs.lemmas.Bool.{false≢true}
-use Rattle.std.proofs.Common.{sym, ap, ap₂, ◌∙◌, subst, mul-le-mul_left, mul-add, arith}
-use Rattle.std.proofs.Math.Path.{fun_ext}
+use Rattle.std.proofs.Common.{sym, ap, ◌∙◌, subst, arith}
 use Rattle.std.proofs.lemmas.Bool.Decides.{nat_tests}
 use Rattle.std.proofs.lemmas.List.{ext_get_or}
-use Rattle.edetector.specs.Tables.{weigh, total, Fair}
+use Rattle.edetector.specs.Tables.{weigh, Fair}
 use Rattle.edetector.specs.Bettors.{Strategy, after_class, learned, same_table, averages, mixed}
 use Rattle.edetector.specs.Sums.{weigh_mono, weigh_scale, weigh_add}
 

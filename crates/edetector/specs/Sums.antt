@@ -1,6 +1,6 @@
 -- Sums over the classes of a table.
-use Rattle.std.specs.Prelude.{◌≡◌, ℕ, zero, suc, ◌+◌, ◌*◌, ◌/◌, ◌<◌, ◌≤◌, List, [], ◌∷◌, length, slice_index, slice_index_or, refl}
-use Rattle.std.proofs.Common.{sym, ap, ◌∙◌, mul_comm, mul-add, add-mul, mul_left_comm, mul-zero, mul-le-mul_left, mul-le-mul_right, add-zero, le_of_suc-le-suc, not-suc-le-zero, arith}
+use Rattle.std.specs.Prelude.{◌≡◌, ℕ, suc, ◌+◌, ◌*◌, ◌/◌, ◌<◌, ◌≤◌, List, [], ◌∷◌, length, slice_index, slice_index_or, refl}
+use Rattle.std.proofs.Common.{sym, ap, ◌∙◌, mul_comm, mul-add, add-mul, mul_left_comm, mul-zero, mul-le-mul_left, arith}
 use Rattle.std.proofs.Math.Nat.{mul-div-le}
 use Rattle.edetector.specs.Tables.{weigh, total, Fair}
 

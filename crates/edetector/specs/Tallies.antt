@@ -1,5 +1,5 @@
 -- What an adaptive bettor has learned so far.
-use Rattle.std.specs.Prelude.{ℕ, take}
+use Rattle.std.specs.Prelude.{take}
 use Rattle.edetector.specs.declared.adaptive.Adaptive.{Adaptive}
 use Rattle.edetector.specs.Bettors.{Tally}
 

@@ -4,9 +4,9 @@ use Rattle.std.proofs.Common.{sym, ap, ap₂, ◌∙◌, le_of_suc-le-suc, not-s
 use Rattle.std.proofs.lemmas.Bool.Decides.{nat_tests}
 use Rattle.std.proofs.lemmas.List.{length-take-le, get_or-take, get_or_past, take-replicate}
 use Rattle.edetector.specs.declared.adaptive.Adaptive.{Adaptive}
-use Rattle.edetector.specs.Tables.{total, Fair, IsNullTable}
+use Rattle.edetector.specs.Tables.{total, Fair}
 use Rattle.edetector.specs.Weights.{null_weights}
-use Rattle.edetector.specs.Bettors.{Strategy, learned, ratio, ratios, Tally, no_tally, one_more, tally_class, adaptive, plus}
+use Rattle.edetector.specs.Bettors.{Strategy, learned, ratio, Tally, no_tally, one_more, tally_class, adaptive, plus}
 use Rattle.edetector.specs.Tallies.{tally_of}
 use Rattle.edetector.specs.Lists.{getD_le_total}
 use Rattle.edetector.specs.Held.{null_long, weight_read, is_null_table}

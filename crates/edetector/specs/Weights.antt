@@ -1,5 +1,5 @@
 -- The weights that a table holds.
-use Rattle.std.specs.Prelude.{◌≡◌, ℕ, List, length, take, Some, None, Ok, Err, Option, Result}
+use Rattle.std.specs.Prelude.{◌≡◌, ℕ, List, take, Some, None, Ok, Err, Option, Result}
 use Rattle.edetector.specs.declared.table.Table.{Table}
 use Rattle.edetector.specs.declared.table.NullTable.{NullTable}
 use Rattle.edetector.specs.declared.table.AlternativeTable.{AlternativeTable}

@@ -2,10 +2,10 @@ use Rattle.std.proofs.Common.{◌+◌, ◌/◌, ap₂, arith}
 use Rattle.edetector.proofs.Copying.{fill_more, fill_all, factor_at, average_at, average_past}
 use Rattle.edetector.proofs.mixture.averaged.Goals as goal
 
-pub overflow-add-row : goal.overflow-add-row
-overflow-add-row c =
+pub overflow_add-row : goal.overflow_add-row
+overflow_add-row c =
     let k = c.loop-k.k in
-    omega (arith, factor_at c.args.f k, factor_at c.args.g k, c.requires.f-small k, c.requires.g-small k)
+    omega (arith, factor_at c.args.f k, factor_at c.args.g k, c.requires.f_small k, c.requires.g_small k)
 
 pub loop-k-preserved : goal.loop-k-preserved
 loop-k-preserved c =

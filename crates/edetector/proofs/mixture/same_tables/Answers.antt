@@ -1,4 +1,4 @@
-use Rattle.std.proofs.Common.{◌≡◌, sym, ap, ◌∙◌, arith}
+use Rattle.std.proofs.Common.{sym, ◌∙◌, arith}
 use Rattle.edetector.specs.Mixing.{apart_long, apart_at, alike}
 use Rattle.edetector.proofs.mixture.same_tables.Goals as goal
 

@@ -3,8 +3,8 @@ use Rattle.edetector.specs.Held.{null_long}
 use Rattle.edetector.specs.Tallying.{total_zeros, tally_zeros}
 use Rattle.edetector.proofs.adaptive.Adaptive.new.Goals as goal
 
-pub invariant-of-result : goal.invariant-of-result
-invariant-of-result c = (refl, (total_zeros c.args.null.table.classes c.args.null.table.few, (omega arith, tt)))
+pub invariant_of-result : goal.invariant_of-result
+invariant_of-result c = record { room = refl; tallies = total_zeros c.args.null.table.classes c.args.null.table.few; capped = omega arith }
 
 pub returns : goal.returns
 returns c =

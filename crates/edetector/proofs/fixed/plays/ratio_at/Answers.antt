@@ -5,8 +5,8 @@ use Rattle.edetector.proofs.fixed.plays.ratio_at.Goals as goal
 pub returns-then-class-null : goal.returns-then-class-null
 returns-then-class-null c = factor_past c.args.null.now c.args.alternative.now c.requires c.args.class c.if-class-null.true
 
-pub likelihood-ratio-requires : goal.likelihood-ratio-requires
-likelihood-ratio-requires c =
+pub likelihood_ratio-requires : goal.likelihood_ratio-requires
+likelihood_ratio-requires c =
     let null = c.args.null.now in
     let alternative = c.args.alternative.now in
     let k = c.args.class in

@@ -1,10 +1,10 @@
-use Rattle.std.proofs.Common.{◌≡◌, ◌+◌, ◌/◌, [], sym, ap, ◌∙◌, ap₂, arith}
+use Rattle.std.proofs.Common.{◌+◌, ◌/◌, [], sym, ◌∙◌, ap₂, arith}
 use Rattle.edetector.specs.Mixing.{mixed_at}
 use Rattle.edetector.proofs.Rows.{small_row}
 use Rattle.edetector.proofs.mixture.MixtureBettor.factor.Goals as goal
 
-pub overflow-add-result : goal.overflow-add-result
-overflow-add-result g c =
+pub overflow_add-result : goal.overflow_add-result
+overflow_add-result g c =
     let m = c.args.self.now in
     let f = small_row _ _ (g.met.F.Bettor.table m.first) (g.met.F.Bettor.fair m.first []) (g.met.F.Bettor.whole m.first []) c.args.class in
     let h = small_row _ _ (g.met.S.Bettor.table m.second) (g.met.S.Bettor.fair m.second []) (g.met.S.Bettor.whole m.second []) c.args.class in

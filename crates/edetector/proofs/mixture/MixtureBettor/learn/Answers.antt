@@ -1,4 +1,4 @@
-use Rattle.std.proofs.Common.{ap₂, arith}
+use Rattle.std.proofs.Common.{arith}
 use Rattle.edetector.specs.Mixing.{mix_learnt}
 use Rattle.edetector.proofs.mixture.MixtureBettor.learn.Goals as goal
 

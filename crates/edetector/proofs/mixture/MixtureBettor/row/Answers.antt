@@ -1,4 +1,4 @@
-use Rattle.std.proofs.Common.{◌≡◌, ◌+◌, ◌/◌, [], sym, ◌∙◌, ap₂, arith}
+use Rattle.std.proofs.Common.{◌+◌, ◌/◌, [], sym, ◌∙◌, ap₂, arith}
 use Rattle.edetector.specs.Mixing.{mixed_at}
 use Rattle.edetector.proofs.Rows.{small_row}
 use Rattle.edetector.proofs.mixture.MixtureBettor.row.Goals as goal
@@ -11,9 +11,9 @@ averaged-requires g c =
       g_small = λ k. omega (arith, c.row.ensures k, small_row _ _ (g.met.S.Bettor.table m.second) (g.met.S.Bettor.fair m.second []) (g.met.S.Bettor.whole m.second []) k);
     }
 
-pub returns-then-same-tables : goal.returns-then-same-tables
-returns-then-same-tables g c =
+pub returns-then-same_tables : goal.returns-then-same_tables
+returns-then-same_tables g c =
     let m = c.args.self.now in
-    let same = sym c.same-tables.ensures ∙ c.if-same-tables.true in
+    let same = sym c.same_tables.ensures ∙ c.if-same_tables.true in
     λ k. c.averaged.ensures k ∙ ap₂ (λ x y. (x + y) / 2) (c.row-row.ensures k) (c.row.ensures k)
     ∙ sym (mixed_at _ _ _ _ (g.met.F.Bettor.whole m.first []) (g.met.S.Bettor.whole m.second []) k same)

@@ -1,15 +1,21 @@
-use Rattle.std.proofs.Common.{◌≡◌, [], sym, refl, ap, arith, rules}
-use Rattle.std.proofs.lemmas.Bool.Decides.{nat_tests}
+use Rattle.std.proofs.Common.{[], refl, arith, rules}
 use Rattle.edetector.specs.View.{terms_of}
 use Rattle.edetector.proofs.Rows.{small_row}
 use Rattle.edetector.proofs.Settling.{row_copied, stake_done}
 use Rattle.edetector.proofs.monitor.Monitor.stake.Goals as goal
 
-pub invariant-of-self : goal.invariant-of-self
-invariant-of-self g c =
+pub invariant_of-self : goal.invariant_of-self
+invariant_of-self g c =
     let m = c.args.self.now in
     let b = m.bettor in
-    (m.least, (m.most, (search rules, (m.fewer, (search rules, ((λ k. omega (arith, c.staked-row-self.ensures k, small_row _ _ (g.met.B.Bettor.table b) (g.met.B.Bettor.fair b []) (g.met.B.Bettor.whole b []) k)), tt))))))
+    record {
+      least = m.least;
+      most = m.most;
+      stands = search rules;
+      fewer = m.fewer;
+      lasting = search rules;
+      small = λ k. omega (arith, c.staked_row-self.ensures k, small_row _ _ (g.met.B.Bettor.table b) (g.met.B.Bettor.fair b []) (g.met.B.Bettor.whole b []) k);
+    }
 
 pub returns : goal.returns
 returns g c =

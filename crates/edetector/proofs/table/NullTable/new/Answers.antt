@@ -1,7 +1,7 @@
 use Rattle.edetector.specs.Held.{each_held}
 use Rattle.edetector.proofs.table.NullTable.new.Goals as goal
 
-pub invariant-of-result : goal.invariant-of-result
-invariant-of-result c =
-    let told = c.in-ok-table.ensures in
-    (each_held c.in-ok-table.table 1 _ told.0 told.1, tt)
+pub invariant_of-result : goal.invariant_of-result
+invariant_of-result c =
+    let told = c.in_ok-table.ensures in
+    record { each = each_held c.in_ok-table.table 1 _ told.0 told.1 }

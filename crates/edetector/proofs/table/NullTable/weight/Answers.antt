@@ -1,4 +1,3 @@
-use Rattle.std.proofs.Common.{sym, arith}
 use Rattle.edetector.specs.Held.{weight_read, weight_past}
 use Rattle.edetector.proofs.table.NullTable.weight.Goals as goal
 

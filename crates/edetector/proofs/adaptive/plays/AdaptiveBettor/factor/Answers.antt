@@ -5,8 +5,8 @@ use Rattle.edetector.proofs.adaptive.plays.AdaptiveBettor.factor.Goals as goal
 pub returns-then-class-self : goal.returns-then-class-self
 returns-then-class-self c = factor_past c.args.self.now c.args.class c.if-class-self.true
 
-pub likelihood-ratio-requires : goal.likelihood-ratio-requires
-likelihood-ratio-requires c =
+pub likelihood_ratio-requires : goal.likelihood_ratio-requires
+likelihood_ratio-requires c =
     let b = c.args.self.now in
     let k = c.args.class in
     let h = c.if-class-self.false in
@@ -21,7 +21,7 @@ likelihood-ratio-requires c =
 pub returns : goal.returns
 returns c = c.likelihood_ratio.ensures ∙ factor_is c.args.self.now c.args.class c.if-class-self.false
 
-pub overflow-add-a : goal.overflow-add-a
-overflow-add-a c =
+pub overflow_add-a : goal.overflow_add-a
+overflow_add-a c =
     let b = c.args.self.now in
     omega (arith, null_part b c.args.class c.if-class-self.false, count_part b c.args.class c.if-class-self.false, b.null.table.light, b.capped)

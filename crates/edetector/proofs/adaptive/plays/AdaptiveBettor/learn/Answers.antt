@@ -1,4 +1,4 @@
-use Rattle.std.proofs.Common.{◌≡◌, ◌+◌, ◌<◌, ◌≤◌, get_or, sym, refl, ap, ◌∙◌, ⊎_elim, arith, length-set}
+use Rattle.std.proofs.Common.{◌+◌, ◌<◌, get_or, refl, ◌∙◌, arith, length-set}
 use Rattle.edetector.specs.Tallies.{tally_of}
 use Rattle.edetector.specs.Weights.{null_weights}
 use Rattle.edetector.specs.Held.{null_long}
@@ -6,21 +6,25 @@ use Rattle.edetector.specs.Tallying.{count_part, tally_more, learns, learns_noth
 use Rattle.edetector.proofs.adaptive.plays.AdaptiveBettor.learn.Goals as goal
 use Rattle.edetector.proofs.adaptive.plays.AdaptiveBettor.learn.Goals.{else-class-self-via-then-class-self+else-self-lt-MOST_TALLIED, else-class-self-via-else-class-self}
 
-pub overflow-add-self : goal.overflow-add-self
-overflow-add-self c = omega (arith, count_part c.args.self.now c.args.class c.if-class-self.true, c.args.self.now.capped)
+pub overflow_add-self : goal.overflow_add-self
+overflow_add-self c = omega (arith, count_part c.args.self.now c.args.class c.if-class-self.true, c.args.self.now.capped)
 
-pub invariant-of-self : goal.invariant-of-self
-invariant-of-self c =
+pub invariant_of-self : goal.invariant_of-self
+invariant_of-self c =
     let b = c.args.self.now in
     let k = c.args.class in
-    (length-set b.counts k (get_or b.counts k 0 + 1) ∙ b.room, (tally_more b k c.if-class-self.true, (omega arith, tt)))
+    record {
+      room = length-set b.counts k (get_or b.counts k 0 + 1) ∙ b.room;
+      tallies = tally_more b k c.if-class-self.true;
+      capped = omega arith;
+    }
 
-pub returns-then-self-lt-MOST-TALLIED : goal.returns-then-self-lt-MOST-TALLIED
-returns-then-self-lt-MOST-TALLIED c =
+pub returns-then-self-lt-MOST_TALLIED : goal.returns-then-self-lt-MOST_TALLIED
+returns-then-self-lt-MOST_TALLIED c =
     let b = c.args.self.now in
     record {
       table = refl;
-      step = learns b.null.table.classes c.args.class b.seen (null_weights b.null) b.counts (null_long b.null) c.if-class-self.true c.if-self-lt-MOST-TALLIED.true;
+      step = learns b.null.table.classes c.args.class b.seen (null_weights b.null) b.counts (null_long b.null) c.if-class-self.true c.if-self-lt-MOST_TALLIED.true;
       same = λ past. absurd (omega (arith, past, null_long b.null, c.if-class-self.true));
     }
 
