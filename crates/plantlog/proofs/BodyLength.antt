@@ -1,12 +1,12 @@
 -- No record that the writer accepts is longer than a length byte may say.
-use Rattle.std.proofs.Common.{◌≡◌, ℕ, zero, suc, ◌+◌, ◌*◌, ◌/◌, ◌<◌, ◌≤◌, true, false, cond, ltb, List, [], ◌∷◌, ◌++◌, length, None, sym, refl, ap, ◌∙◌, ⊎_elim, arith}
+use Rattle.std.proofs.Common.{◌≡◌, ℕ, suc, ◌+◌, ◌*◌, ◌/◌, ◌<◌, ◌≤◌, true, List, [], ◌∷◌, length, None, ⊎_elim, arith}
 use Rattle.std.proofs.lemmas.List.{length-append}
 use Rattle.std.proofs.lemmas.Bool.{lt-ltb, le-ltb, cases_lt, and_parts}
 use Rattle.edetector.specs.Tables.{from_to, weights_within}
 use Rattle.plantlog.specs.Numbers.{groups, number_bytes}
 use Rattle.plantlog.specs.Format.{Fields, Table, Setup, Alternative, Count, Rearm, End, numbers, numbers_bytes, body, fields_fault}
 use Rattle.plantlog.proofs.Limits.{within}
-use Rattle.plantlog.proofs.Groups.{groups_some, bytes_few}
+use Rattle.plantlog.proofs.Groups.{bytes_few}
 use Rattle.plantlog.proofs.WriteFacts.{Unbroken, unbroken}
 
 one_less : (m n k : ℕ) → length (groups m (n / 128)) ≤ k → length (groups (suc m) n) ≤ suc k

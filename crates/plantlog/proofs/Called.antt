@@ -1,8 +1,8 @@
 -- A call of the reader, from the next record and what the call asks of it.
-use Rattle.std.proofs.Common.{◌≡◌, ℕ, ◌+◌, ◌-◌, List, length, take, drop, Ok, Err, Result, sym, refl, ap, ◌∙◌}
+use Rattle.std.proofs.Common.{◌≡◌, ℕ, ◌-◌, List, length, take, drop, Ok, Err, Result, ap, ◌∙◌}
 use Rattle.std.proofs.lemmas.List.{take_rest}
 use Rattle.plantlog.specs.declared.fault.RecordFault.{RecordFault}
-use Rattle.plantlog.specs.Results.{of_ok, and_then}
+use Rattle.plantlog.specs.Results.{and_then}
 use Rattle.plantlog.specs.Format.{Fields}
 use Rattle.plantlog.specs.Calls.{next_in, span}
 

@@ -1,8 +1,7 @@
 -- What an accepted field says.
-use Rattle.std.proofs.Common.{◌≡◌, ℕ, ◌≤◌, Bool, true, false, cond, List, [], ◌∷◌, Ok, Err, Result, sym, refl, ap, ◌∙◌, arith}
+use Rattle.std.proofs.Common.{◌≡◌, ℕ, Bool, true, false, cond, List, Ok, Err, sym, refl, ap, ◌∙◌}
 use Rattle.edetector.specs.Tables.{from_to}
 use Rattle.plantlog.specs.declared.fault.RecordFault.{RecordFault}
-use Rattle.plantlog.specs.Results.{of_ok, and_then}
 use Rattle.plantlog.specs.FirstRecord.{any_field, field}
 use Rattle.plantlog.proofs.ResultFacts.{ok_is, err_no_ok, then_was}
 

@@ -1,15 +1,15 @@
 -- Fields that were written are read back.
-use Rattle.std.proofs.Common.{◌≡◌, ℕ, zero, suc, ◌^◌, ◌<◌, ◌≤◌, true, false, cond, List, [], ◌∷◌, ◌++◌, length, Ok, Err, Result, sym, refl, ap, ◌∙◌, append_assoc, arith}
+use Rattle.std.proofs.Common.{◌≡◌, ℕ, ◌^◌, ◌<◌, true, cond, List, [], ◌∷◌, ◌++◌, length, Ok, Err, sym, refl, ap, ◌∙◌, append_assoc, arith}
 use Rattle.std.proofs.lemmas.List.{append-nil}
 use Rattle.std.proofs.lemmas.Bool.{and_parts}
 use Rattle.edetector.specs.declared.value.ValueFault.TheVariants.{Classes, Weight, Total, Threshold}
-use Rattle.edetector.specs.Tables.{from_to, total, weights_within, table_fault}
+use Rattle.edetector.specs.Tables.{from_to, total, weights_within}
 use Rattle.plantlog.specs.declared.fault.RecordFault.{RecordFault}
 use Rattle.plantlog.specs.declared.fault.RecordFault.TheVariants.{Value, UnknownChoice}
 use Rattle.plantlog.specs.Results.{of_ok, and_then}
-use Rattle.plantlog.specs.Numbers.{number_bytes, first_number}
-use Rattle.plantlog.specs.Format.{Fields, Setup, Count, End, numbers_bytes, of_value}
-use Rattle.plantlog.specs.FirstRecord.{of_number, any_field, field, weights, no_more, ended, table_weights, table_fields, setup_fields, count_fields, end_fields}
+use Rattle.plantlog.specs.Numbers.{number_bytes}
+use Rattle.plantlog.specs.Format.{Setup, Count, End, numbers_bytes}
+use Rattle.plantlog.specs.FirstRecord.{of_number, any_field, field, weights, ended, table_weights, table_fields, setup_fields, count_fields, end_fields}
 use Rattle.plantlog.proofs.Limits.{within}
 use Rattle.plantlog.proofs.NumberLaws.{number_back}
 use Rattle.plantlog.proofs.WriteFacts.{Unbroken}

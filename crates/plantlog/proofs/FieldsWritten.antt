@@ -1,5 +1,5 @@
 -- Fields that are read are the writing of what was read.
-use Rattle.std.proofs.Common.{◌≡◌, ℕ, zero, suc, ◌^◌, ◌<◌, ◌≤◌, Bool, true, false, cond, List, [], ◌∷◌, ◌++◌, length, Some, None, Ok, Err, Option, Result, sym, refl, ap, ◌∙◌, subst, append_assoc, arith}
+use Rattle.std.proofs.Common.{◌≡◌, ℕ, zero, suc, ◌^◌, ◌<◌, Bool, true, false, cond, List, [], ◌∷◌, ◌++◌, length, None, Ok, Err, Result, sym, refl, ap, ◌∙◌, subst, append_assoc}
 use Rattle.std.proofs.lemmas.List.{append-nil}
 use Rattle.edetector.specs.declared.value.ValueFault.TheVariants.{Classes, Weight, Total, Threshold}
 use Rattle.edetector.specs.Tables.{from_to, total, weights_within, table_fault}
@@ -7,7 +7,7 @@ use Rattle.plantlog.specs.declared.number.NumberFault.{NumberFault}
 use Rattle.plantlog.specs.declared.fault.RecordFault.{RecordFault}
 use Rattle.plantlog.specs.declared.fault.RecordFault.TheVariants.{Value, UnknownChoice}
 use Rattle.plantlog.specs.Bytes.{Bytes}
-use Rattle.plantlog.specs.Results.{of_ok, and_then}
+use Rattle.plantlog.specs.Results.{of_ok}
 use Rattle.plantlog.specs.Numbers.{number_bytes, first_number}
 use Rattle.plantlog.specs.Format.{Fields, Table, Setup, Alternative, Count, Rearm, End, kind_byte, numbers, numbers_bytes, of_value, fields_fault}
 use Rattle.plantlog.specs.FirstRecord.{of_number, any_field, field, weights, no_more, ended, table_weights, table_fields, setup_fields, count_fields, end_fields}

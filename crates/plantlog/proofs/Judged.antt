@@ -1,8 +1,7 @@
 -- The next record, from its front and its body.
-use Rattle.std.proofs.Common.{◌≡◌, ℕ, ◌<◌, ◌≤◌, true, false, cond, leb, List, Ok, Err, Result, sym, refl, ap, ◌∙◌}
-use Rattle.std.proofs.lemmas.Bool.{le-leb, lt-leb}
+use Rattle.std.proofs.Common.{◌≡◌, ℕ, ◌≤◌, List, Ok, Err, Result, refl, ap, ◌∙◌}
+use Rattle.std.proofs.lemmas.Bool.{le-leb}
 use Rattle.plantlog.specs.declared.fault.RecordFault.{RecordFault}
-use Rattle.plantlog.specs.declared.fault.RecordFault.TheVariants.{ReceiveBuffer}
 use Rattle.plantlog.specs.Results.{of_ok, and_then}
 use Rattle.plantlog.specs.Format.{Fields}
 use Rattle.plantlog.specs.FirstRecord.{front, body_fields, first_record}

@@ -1,10 +1,9 @@
 -- The laws of whole logs.
-use Rattle.std.proofs.Common.{◌≡◌, ℕ, zero, suc, List, [], ◌∷◌, ◌++◌, length, Ok, Err, Result, sym, refl, ap, ◌∙◌, subst, append_assoc}
-use Rattle.plantlog.specs.Bytes.{Bytes}
+use Rattle.std.proofs.Common.{◌≡◌, zero, suc, [], ◌∷◌, ◌++◌, length, sym, refl, ap, ◌∙◌, subst, append_assoc}
 use Rattle.plantlog.specs.Results.{of_ok, and_then}
-use Rattle.plantlog.specs.Format.{Fields, record_bytes}
+use Rattle.plantlog.specs.Format.{record_bytes}
 use Rattle.plantlog.specs.FirstRecord.{first_record}
-use Rattle.plantlog.specs.Laws.{Writable, AllWritable, log_bytes, records_in, LogReadBack, LogWrittenSo, OneWriting}
+use Rattle.plantlog.specs.Laws.{AllWritable, log_bytes, records_in, LogReadBack, LogWrittenSo, OneWriting}
 use Rattle.plantlog.proofs.ResultFacts.{ok_is, then_was, of_ok_was}
 use Rattle.plantlog.proofs.ReadBack.{read_back}
 use Rattle.plantlog.proofs.WrittenSo.{written_so, rest_bytes}

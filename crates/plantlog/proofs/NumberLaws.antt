@@ -1,8 +1,8 @@
 -- Every number is read back, and what is read is written the same way.
-use Rattle.std.proofs.Common.{◌≡◌, ℕ, zero, suc, ◌+◌, ◌-◌, ◌*◌, ◌/◌, ◌%◌, ◌^◌, ◌<◌, ◌≤◌, Bool, true, false, cond, ◌&&◌, eqb, ltb, List, [], ◌∷◌, ◌++◌, Ok, Err, Result, sym, refl, ap, ◌∙◌, ⊎_elim, arith}
+use Rattle.std.proofs.Common.{◌≡◌, ℕ, zero, suc, ◌+◌, ◌/◌, ◌%◌, ◌^◌, ◌<◌, Bool, true, false, List, ◌++◌, Ok, refl, ap, ⊎_elim, arith}
 use borrow.Author.Tests.{clash}
 use Rattle.std.proofs.lemmas.Bool.{lt-ltb, le-ltb, cases_lt}
-use Rattle.plantlog.specs.Numbers.{groups, number_bytes, below_more, last_group, first_number_by, first_number, NumberExamples}
+use Rattle.plantlog.specs.Numbers.{groups, number_bytes, first_number_by, first_number, NumberExamples}
 use Rattle.plantlog.specs.NumberLimits.{limit}
 use Rattle.plantlog.proofs.ReadGroups.{last_ok}
 

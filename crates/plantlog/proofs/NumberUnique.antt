@@ -1,9 +1,8 @@
 -- A number that is read is written in no other way.
-use Rattle.std.proofs.Common.{◌≡◌, ℕ, zero, suc, ◌+◌, ◌-◌, ◌*◌, ◌/◌, ◌%◌, ◌^◌, ◌<◌, ◌≤◌, Bool, true, false, cond, ◌&&◌, eqb, ltb, List, [], ◌∷◌, ◌++◌, Ok, Err, Result, sym, refl, ap, ◌∙◌, ⊎_elim, arith}
+use Rattle.std.proofs.Common.{◌≡◌, ℕ, zero, suc, ◌+◌, ◌-◌, ◌*◌, ◌/◌, ◌%◌, ◌^◌, ◌<◌, Bool, true, false, List, [], ◌∷◌, ◌++◌, Ok, Err, Result, sym, refl, ap, ⊎_elim, arith}
 use borrow.Author.Tests.{clash}
 use Rattle.std.proofs.lemmas.Bool.{lt-ltb, le-ltb, cases_lt, cases_eq, eq-eqb, ne_eqb}
 use Rattle.plantlog.specs.declared.number.NumberFault.{NumberFault}
-use Rattle.plantlog.specs.declared.number.NumberFault.TheVariants.{Padded}
 use Rattle.plantlog.specs.Bytes.{Bytes}
 use Rattle.plantlog.specs.Numbers.{groups, number_bytes, below_more, last_group, first_number_by, first_number}
 use Rattle.plantlog.specs.NumberLimits.{limit}

@@ -1,15 +1,14 @@
 -- A record that was written is read back.
-use Rattle.std.proofs.Common.{◌≡◌, ℕ, suc, ◌+◌, ◌<◌, ◌≤◌, Bool, true, false, cond, leb, List, [], ◌∷◌, ◌++◌, length, take, drop, Some, None, Ok, Err, Option, Result, sym, refl, ap, ◌∙◌, arith}
+use Rattle.std.proofs.Common.{◌≡◌, ℕ, ◌≤◌, Bool, true, false, cond, List, ◌++◌, length, Some, None, Ok, refl, ap, ◌∙◌, arith}
 use Rattle.std.proofs.lemmas.List.{length-append, take_at, drop_at}
 use Rattle.std.proofs.lemmas.Bool.{le-leb}
 use Rattle.edetector.specs.declared.value.ValueFault.TheVariants.{Threshold}
 use Rattle.edetector.specs.Tables.{from_to}
-use Rattle.plantlog.specs.declared.fault.RecordFault.{RecordFault}
 use Rattle.plantlog.specs.declared.fault.RecordFault.TheVariants.{Value, UnknownChoice}
 use Rattle.plantlog.specs.Results.{of_ok, and_then}
-use Rattle.plantlog.specs.Format.{Fields, Table, Setup, Alternative, Count, Rearm, End, numbers, numbers_bytes, kind_byte, body, framed, record_bytes, fields_fault}
+use Rattle.plantlog.specs.Format.{Fields, Table, Setup, Alternative, Count, Rearm, End, body, framed, record_bytes}
 use Rattle.plantlog.specs.FirstRecord.{by_kind, body_fields, front, first_record}
-use Rattle.plantlog.specs.Laws.{Sayable, Writable, ReadBack}
+use Rattle.plantlog.specs.Laws.{Writable, ReadBack}
 use Rattle.plantlog.proofs.Limits.{inside}
 use Rattle.plantlog.proofs.WriteFacts.{unbroken}
 use Rattle.plantlog.proofs.BodyLength.{body_few}

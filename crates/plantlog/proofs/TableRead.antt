@@ -1,5 +1,5 @@
 -- A table read: its weights keep their limits, so that only the total is left to judge.
-use Rattle.std.proofs.Common.{◌≡◌, ℕ, zero, suc, ◌-◌, ◌≤◌, Bool, true, false, cond, ◌&&◌, List, [], ◌∷◌, length, take, drop, Some, None, Ok, Err, Option, Result, sym, refl, ap, ◌∙◌, arith}
+use Rattle.std.proofs.Common.{◌≡◌, ℕ, zero, suc, ◌-◌, Bool, true, false, cond, List, [], ◌∷◌, length, take, drop, Some, None, Ok, Err, Option, Result, sym, refl, ap, ◌∙◌, arith}
 use Rattle.std.proofs.lemmas.List.{take-map}
 use Rattle.std.proofs.lemmas.Bool.{and_from}
 use Rattle.edetector.specs.declared.value.ValueFault.{ValueFault}
@@ -11,7 +11,7 @@ use Rattle.plantlog.specs.declared.fault.RecordFault.{RecordFault}
 use Rattle.plantlog.specs.declared.fault.RecordFault.TheVariants.{Value}
 use Rattle.plantlog.specs.Results.{of_ok, and_then}
 use Rattle.plantlog.specs.FirstRecord.{field, weights, no_more, ended, table_weights, table_fields}
-use Rattle.plantlog.proofs.ResultFacts.{ok_is, err_no_ok, then_was, of_ok_was}
+use Rattle.plantlog.proofs.ResultFacts.{ok_is, then_was, of_ok_was}
 use Rattle.plantlog.proofs.FieldFacts.{field_was}
 
 -- as many weights as were asked for, each within its limits

@@ -1,5 +1,5 @@
 -- Weights read one by one.
-use Rattle.std.proofs.Common.{◌≡◌, ℕ, zero, suc, ◌+◌, ◌-◌, ◌<◌, ◌≤◌, List, [], ◌∷◌, ◌++◌, length, take, set, Ok, Err, Result, sym, refl, ap, ◌∙◌, append_assoc, arith, length-set}
+use Rattle.std.proofs.Common.{◌≡◌, ℕ, suc, ◌+◌, ◌-◌, ◌<◌, ◌≤◌, List, [], ◌∷◌, ◌++◌, length, take, set, Ok, Err, Result, sym, refl, ap, ◌∙◌, append_assoc, arith, length-set}
 use Rattle.std.proofs.lemmas.List.{append-nil, length-map, map-set, take_more_set}
 use Rattle.edetector.specs.declared.units.Weight.{Weight}
 use Rattle.edetector.specs.declared.value.ValueFault.TheVariants.{Weight as WeightFault}

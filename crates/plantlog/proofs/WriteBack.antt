@@ -1,5 +1,5 @@
 -- What a call of the writer gives and leaves, from the record put into its buffer.
-use Rattle.std.proofs.Common.{◌≡◌, ℕ, suc, ◌+◌, ◌-◌, ◌≤◌, Bool, true, false, cond, leb, List, ◌∷◌, length, take, drop, IfOk, None, Ok, Err, Result, sym, refl, ap, ◌∙◌, subst, arith}
+use Rattle.std.proofs.Common.{◌≡◌, ℕ, ◌+◌, ◌-◌, ◌≤◌, Bool, true, false, cond, leb, List, ◌∷◌, length, take, drop, IfOk, None, Ok, Err, Result, sym, refl, ap, ◌∙◌, subst, arith}
 use Rattle.std.proofs.lemmas.Bool.{leb-true}
 use Rattle.std.proofs.lemmas.List.{length-map}
 use Rattle.edetector.specs.declared.units.Weight.{Weight}
@@ -11,7 +11,7 @@ use Rattle.plantlog.specs.Results.{and_then}
 use Rattle.plantlog.specs.Format.{Fields, kind_byte, numbers, numbers_bytes, framed, record_bytes, of_value, fields_fault}
 use Rattle.plantlog.specs.FirstRecord.{first_record}
 use Rattle.plantlog.specs.Laws.{Sayable}
-use Rattle.plantlog.specs.Written.{fields_judged, room_judged, write_answer, after_write, Wrote}
+use Rattle.plantlog.specs.Written.{fields_judged, room_judged, after_write, Wrote}
 use Rattle.plantlog.proofs.ResultFacts.{ok_is, err_no_ok}
 use Rattle.plantlog.proofs.WriteFacts.{not_refused, few_classes, part_is}
 use Rattle.plantlog.proofs.TableNumbers.{counted}

@@ -1,13 +1,12 @@
 -- What the writer may take for granted once the fields are judged.
-use Rattle.std.proofs.Common.{◌≡◌, ℕ, suc, ◌-◌, ◌^◌, ◌<◌, ◌≤◌, Bool, true, false, cond, List, [], ◌∷◌, length, get_or, take, drop, Some, None, Ok, Err, Option, Result, sym, refl, ap, ◌∙◌, arith}
+use Rattle.std.proofs.Common.{◌≡◌, ℕ, suc, ◌-◌, ◌^◌, ◌<◌, ◌≤◌, Bool, true, false, cond, List, [], ◌∷◌, length, get_or, take, drop, Some, None, Ok, Option, sym, refl, ap, ◌∙◌, arith}
 use Rattle.edetector.specs.declared.value.ValueFault.{ValueFault}
 use Rattle.edetector.specs.declared.value.ValueFault.TheVariants.{Classes, Weight, Total}
 use Rattle.edetector.specs.Tables.{from_to, total, weights_within, table_fault}
 use Rattle.plantlog.specs.declared.fault.RecordFault.{RecordFault}
-use Rattle.plantlog.specs.Results.{and_then}
-use Rattle.plantlog.specs.Format.{Fields, Table, Setup, Alternative, Count, Rearm, End, kind_byte, numbers, numbers_bytes, framed, record_bytes, of_value, fields_fault}
+use Rattle.plantlog.specs.Format.{of_value}
 use Rattle.plantlog.specs.Laws.{Sayable}
-use Rattle.plantlog.specs.Written.{unless, fields_judged, room_judged, write_answer, after_write}
+use Rattle.plantlog.specs.Written.{unless}
 use Rattle.plantlog.proofs.ResultFacts.{err_no_ok}
 use Rattle.plantlog.proofs.Limits.{within}
 

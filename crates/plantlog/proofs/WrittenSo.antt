@@ -1,14 +1,13 @@
 -- Bytes that are read as a record are the writing of that record.
-use Rattle.std.proofs.Common.{◌≡◌, ℕ, zero, suc, ◌+◌, ◌<◌, ◌≤◌, Bool, true, false, cond, eqb, leb, ◌⊎◌, List, [], ◌∷◌, ◌++◌, length, take, drop, None, Ok, Err, Result, sym, refl, ap, ◌∙◌, subst, inl, inr, ⊎_elim, add-one, arith}
+use Rattle.std.proofs.Common.{◌≡◌, ℕ, zero, suc, ◌≤◌, Bool, true, false, cond, eqb, leb, ◌⊎◌, List, [], ◌∷◌, ◌++◌, length, take, drop, Ok, Err, Result, sym, refl, ap, ◌∙◌, subst, inl, inr, ⊎_elim, add-one}
 use Rattle.std.proofs.lemmas.List.{length-take-le, take-append-drop}
 use Rattle.std.proofs.lemmas.Bool.{eqb-true, leb-true}
 use Rattle.edetector.specs.Tables.{from_to}
 use Rattle.plantlog.specs.declared.fault.RecordFault.{RecordFault}
 use Rattle.plantlog.specs.declared.fault.RecordFault.TheVariants.{LengthByte, Truncated, UnknownKind}
 use Rattle.plantlog.specs.Bytes.{Bytes}
-use Rattle.plantlog.specs.Results.{of_ok, and_then}
-use Rattle.plantlog.specs.Format.{Fields, Table, Setup, Alternative, Count, Rearm, End, numbers, numbers_bytes, kind_byte, body, framed, record_bytes, fields_fault}
-use Rattle.plantlog.specs.FirstRecord.{table_fields, setup_fields, count_fields, end_fields, ended, by_kind, body_fields, front, first_record}
+use Rattle.plantlog.specs.Format.{Fields, Rearm, body, framed, record_bytes}
+use Rattle.plantlog.specs.FirstRecord.{count_fields, end_fields, ended, by_kind, body_fields, front, first_record}
 use Rattle.plantlog.specs.Calls.{span}
 use Rattle.plantlog.specs.Laws.{Writable, WrittenSo, LeftBehind}
 use Rattle.plantlog.proofs.ResultFacts.{ok_is, err_no_ok, then_was, of_ok_was}

@@ -1,5 +1,5 @@
 -- The laws of the format: what was written is read back, and what is read was written so and in no other way.
-use Rattle.std.specs.Prelude.{◌≡◌, ℕ, zero, suc, ◌^◌, ◌<◌, List, [], ◌∷◌, ◌++◌, length, drop, None, Ok, Err, Result}
+use Rattle.std.specs.Prelude.{◌≡◌, ℕ, zero, suc, ◌^◌, ◌<◌, List, [], ◌∷◌, ◌++◌, length, drop, None, Ok, Result}
 use Rattle.plantlog.specs.declared.fault.RecordFault.{RecordFault}
 use Rattle.plantlog.specs.Bytes.{Bytes}
 use Rattle.plantlog.specs.Results.{of_ok, and_then}

@@ -1,5 +1,5 @@
 -- How large a number of so many groups can be.
-use Rattle.std.specs.Prelude.{ℕ, zero, suc, ◌*◌, ◌<◌, List, Ok, Err, Result}
+use Rattle.std.specs.Prelude.{ℕ, zero, suc, ◌*◌, ◌<◌, Ok, Err, Result}
 use Rattle.plantlog.specs.declared.number.NumberFault.{NumberFault}
 
 -- what m + 1 groups cannot reach, the fifth having four bits

@@ -1,5 +1,4 @@
 -- Values of the library seen as what a record says.
-use Rattle.std.specs.Prelude.{ℕ, List}
 use Rattle.edetector.specs.Weights.{null_weights, alternative_weights}
 use Rattle.plantlog.specs.declared.record.Setup.{Setup as SetupValue}
 use Rattle.plantlog.specs.declared.record.Record.{Record}

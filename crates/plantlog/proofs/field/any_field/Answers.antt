@@ -2,9 +2,9 @@ use Rattle.std.proofs.Common.{rules}
 use Rattle.plantlog.specs.FirstRecord.{any_field}
 use Rattle.plantlog.proofs.field.any_field.Goals as goal
 
-pub returns-in-err-n : goal.returns-in-err-n
+pub returns-in_err-n : goal.returns-in_err-n
 unfolding any_field
-returns-in-err-n c = search rules
+returns-in_err-n c = search rules
 
 pub returns : goal.returns
 unfolding any_field

@@ -3,9 +3,9 @@ use Rattle.std.proofs.lemmas.Bool.Decides.{nat_tests}
 use Rattle.plantlog.specs.FirstRecord.{field}
 use Rattle.plantlog.proofs.field.bettor_field.Goals as goal
 
-pub returns-in-err-n : goal.returns-in-err-n
+pub returns-in_err-n : goal.returns-in_err-n
 unfolding field
-returns-in-err-n c = search rules
+returns-in_err-n c = search rules
 
 pub returns-in-1 : goal.returns-in-1
 unfolding field
@@ -19,6 +19,6 @@ pub returns-in-3 : goal.returns-in-3
 unfolding field
 returns-in-3 c = search rules
 
-pub returns-in-default : goal.returns-in-default
+pub returns-in_default : goal.returns-in_default
 unfolding field
-returns-in-default c = search (rules, nat_tests)
+returns-in_default c = search (rules, nat_tests)

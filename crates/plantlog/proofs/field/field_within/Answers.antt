@@ -3,9 +3,9 @@ use Rattle.std.proofs.lemmas.Bool.Decides.{nat_tests}
 use Rattle.plantlog.specs.FirstRecord.{field}
 use Rattle.plantlog.proofs.field.field_within.Goals as goal
 
-pub returns-in-err-n : goal.returns-in-err-n
+pub returns-in_err-n : goal.returns-in_err-n
 unfolding field
-returns-in-err-n c = search rules
+returns-in_err-n c = search rules
 
 pub returns-then-n-low : goal.returns-then-n-low
 unfolding field

@@ -1,4 +1,4 @@
 use Rattle.plantlog.proofs.number.+read_groups.Given as goal
 
-abbrev pub decreases-read-groups : goal.decreases-read-groups
-decreases-read-groups l = l.more
+abbrev pub decreases-read_groups : goal.decreases-read_groups
+decreases-read_groups l = l.more

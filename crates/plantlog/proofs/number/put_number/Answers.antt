@@ -1,11 +1,10 @@
-use Rattle.std.proofs.Common.{◌≡◌, ◌+◌, ◌-◌, ◌<◌, ◌≤◌, length, arith}
-use Rattle.plantlog.specs.Numbers.{number_bytes}
+use Rattle.std.proofs.Common.{arith}
 use Rattle.plantlog.proofs.Groups.{bytes_some, bytes_few}
 use Rattle.plantlog.proofs.PutGroups.{sofar_start, sofar_more, sofar_low, sofar_done}
 use Rattle.plantlog.proofs.number.put_number.Goals as goal
 
-pub overflow-sub-last : goal.overflow-sub-last
-overflow-sub-last c = omega (arith, bytes_some c.args.n)
+pub overflow_sub-last : goal.overflow_sub-last
+overflow_sub-last c = omega (arith, bytes_some c.args.n)
 
 pub loop-i-init : goal.loop-i-init
 loop-i-init c = sofar_start c.args.n _ c.args.out.now (omega arith) (omega arith)
@@ -14,8 +13,8 @@ pub loop-i-preserved : goal.loop-i-preserved
 loop-i-preserved c =
     sofar_more _ _ _ _ _ _ (omega arith) (omega (arith, bytes_few c.args.n)) (omega arith) c.loop-i.invariant
 
-pub overflow-cast-out-2 : goal.overflow-cast-out-2
-overflow-cast-out-2 c =
+pub overflow_cast-out-2 : goal.overflow_cast-out-2
+overflow_cast-out-2 c =
     let low = sofar_low _ _ c.loop-i.i _ _ _ (omega arith) c.loop-i.invariant in omega (arith, low)
 
 pub returns : goal.returns

@@ -3,8 +3,8 @@ use Rattle.plantlog.specs.Numbers.{first_number}
 use Rattle.plantlog.proofs.ReadGroups.{none, one_group, two_groups}
 use Rattle.plantlog.proofs.number.read_number.Goals as goal
 
-pub returns-in-default : goal.returns-in-default
-returns-in-default c = record { value = none c.args.bytes.now (search rules) }
+pub returns-in_default : goal.returns-in_default
+returns-in_default c = record { value = none c.args.bytes.now (search rules) }
 
 pub returns-then-first-lt128 : goal.returns-then-first-lt128
 returns-then-first-lt128 c = record { value = one_group c.args.bytes.now c.from.result (search rules) (search rules) (search rules) }
@@ -18,4 +18,4 @@ returns-then-second-lt128 c =
 
 pub returns : goal.returns
 unfolding first_number
-returns c = record { value = c.read-groups.ensures.value }
+returns c = record { value = c.read_groups.ensures.value }

@@ -2,17 +2,17 @@ use Rattle.std.proofs.Common.{rules}
 use Rattle.plantlog.specs.FirstRecord.{count_fields}
 use Rattle.plantlog.proofs.parse.count_fields.Goals as goal
 
-pub returns-in-err-day : goal.returns-in-err-day
+pub returns-in_err-day : goal.returns-in_err-day
 unfolding count_fields
-returns-in-err-day c = search rules
+returns-in_err-day c = search rules
 
-pub returns-in-err-count : goal.returns-in-err-count
+pub returns-in_err-count : goal.returns-in_err-count
 unfolding count_fields
-returns-in-err-count c = search rules
+returns-in_err-count c = search rules
 
-pub returns-in-err-no-more : goal.returns-in-err-no-more
+pub returns-in_err-no_more : goal.returns-in_err-no_more
 unfolding count_fields
-returns-in-err-no-more c = search rules
+returns-in_err-no_more c = search rules
 
 pub returns : goal.returns
 unfolding count_fields

@@ -5,5 +5,5 @@ use Rattle.plantlog.proofs.writer.write_count.Goals as goal
 
 pub returns : goal.returns
 returns c =
-    let put = c.put-record.ensures in
-    wrote (Count c.args.day c.args.count) (c.args.day ∷ c.args.count ∷ []) c.put-record.result c.put-record.new.out c.args.out.now refl refl put.small put.value put.after
+    let put = c.put_record.ensures in
+    wrote (Count c.args.day c.args.count) (c.args.day ∷ c.args.count ∷ []) c.put_record.result c.put_record.new.out c.args.out.now refl refl put.small put.value put.after

@@ -1,9 +1,9 @@
-use Rattle.std.proofs.Common.{[], ◌∷◌, refl}
+use Rattle.std.proofs.Common.{[], refl}
 use Rattle.plantlog.specs.Format.{Rearm}
 use Rattle.plantlog.proofs.WriteBack.{wrote}
 use Rattle.plantlog.proofs.writer.write_rearm.Goals as goal
 
 pub returns : goal.returns
 returns c =
-    let put = c.put-record.ensures in
-    wrote (Rearm) ([]) c.put-record.result c.put-record.new.out c.args.out.now refl refl put.small put.value put.after
+    let put = c.put_record.ensures in
+    wrote (Rearm) ([]) c.put_record.result c.put_record.new.out c.args.out.now refl refl put.small put.value put.after

@@ -5,6 +5,6 @@ use Rattle.plantlog.proofs.writer.write_setup.Goals as goal
 
 pub returns : goal.returns
 returns c =
-    let put = c.put-record.ensures in
+    let put = c.put_record.ensures in
     let a = c.args in
-    wrote (Setup a.threshold a.rule a.bettor) (a.threshold ∷ a.rule ∷ a.bettor ∷ []) c.put-record.result c.put-record.new.out a.out.now refl c.in-ok-judge-setup.ensures put.small put.value put.after
+    wrote (Setup a.threshold a.rule a.bettor) (a.threshold ∷ a.rule ∷ a.bettor ∷ []) c.put_record.result c.put_record.new.out a.out.now refl c.in_ok-judge_setup.ensures put.small put.value put.after

@@ -3,8 +3,8 @@ use Rattle.plantlog.proofs.Groups.{bytes_few}
 use Rattle.plantlog.proofs.NumbersBytes.{size_more, size_all}
 use Rattle.plantlog.proofs.writer.put.numbers_size.Goals as goal
 
-pub overflow-add-size : goal.overflow-add-size
-overflow-add-size c = omega (arith, bytes_few (get_or c.args.numbers.now c.loop-n.n-index 0))
+pub overflow_add-size : goal.overflow_add-size
+overflow_add-size c = omega (arith, bytes_few (get_or c.args.numbers.now c.loop-n.n-index 0))
 
 pub loop-n-preserved : goal.loop-n-preserved
 loop-n-preserved c =

@@ -9,10 +9,10 @@ returns c =
     let bytes = numbers_bytes c.args.numbers.now in
     record {
       value = put_answer c.args.kind bytes c.args.out.now _ (omega arith) c.if-out-size.false;
-      small = sayable c.args.numbers.now (λ i. omega (arith, c.type-inv.numbers i));
-      after = put_after c.args.kind bytes c.args.out.now _ (omega arith) c.if-out-size.false _ c.put-numbers.ensures;
+      small = sayable c.args.numbers.now (λ i. omega (arith, c.type_inv.numbers i));
+      after = put_after c.args.kind bytes c.args.out.now _ (omega arith) c.if-out-size.false _ c.put_numbers.ensures;
     }
 
 pub returns-then-out-size : goal.returns-then-out-size
 returns-then-out-size c =
-    record { value = search rules; small = sayable c.args.numbers.now (λ i. omega (arith, c.type-inv.numbers i)); after = search rules }
+    record { value = search rules; small = sayable c.args.numbers.now (λ i. omega (arith, c.type_inv.numbers i)); after = search rules }
