@@ -1,8 +1,7 @@
 -- Entering, over the list of the places.
-use Rattle.std.proofs.Common.{◌≡◌, ℕ, zero, suc, ◌+◌, ◌-◌, ◌<◌, true, false, leb, List, [], ◌∷◌, ◌++◌, length, get_or, take, drop, set, Some, Ok, Err, Result, sym, refl, ap, ◌∙◌, arith, length-set}
+use Rattle.std.proofs.Common.{◌≡◌, ℕ, zero, suc, ◌+◌, ◌-◌, ◌<◌, true, false, leb, List, [], ◌∷◌, length, get_or, take, drop, set, Some, Ok, sym, refl, ap, ◌∙◌, arith, length-set}
 use borrow.Author.Tests.{lt-leb}
 use Rattle.std.proofs.lemmas.List.{length-take-le, take_more_set, drop-set-lt, drop-drop}
-use Rattle.daybook.specs.declared.fault.BookFault.{BookFault}
 use Rattle.daybook.specs.Books.{last_key, above, enter_answer, entered, unused_after}
 
 module _ {X : Type 0} (key : X → ℕ) where

@@ -1,5 +1,5 @@
 -- What a book holds, and what entering answers and leaves.
-use Rattle.std.specs.Prelude.{◌≡◌, ℕ, Bool, true, false, cond, List, [], ◌∷◌, ◌++◌, length, take, drop, Some, None, Ok, Err, Option, Result, nat_le, nat_lt}
+use Rattle.std.specs.Prelude.{◌≡◌, ℕ, Bool, true, cond, List, [], ◌∷◌, ◌++◌, length, take, drop, Some, None, Ok, Err, Option, Result, nat_le, nat_lt}
 use Rattle.daybook.specs.declared.book.Book.{Book}
 use Rattle.daybook.specs.declared.fault.BookFault.{BookFault}
 use Rattle.daybook.specs.declared.fault.BookFault.TheVariants.{Full, DayNotAbove}

@@ -19,9 +19,9 @@ impl<'a, E: Dated + Copy> Book<'a, E> {
 
     // Writes e into the first unused place.
     pub fn enter(&mut self, e: E) -> Result<(), BookFault>
-        ensures answer { result ≡ enter_answer key (places_of self.old) (entries_of self.old) e }
-        ensures entries { entries_of self.new ≡ entered key (places_of self.old) (entries_of self.old) e }
-        ensures unused { unused_of self.new ≡ unused_after key (places_of self.old) (entries_of self.old) (unused_of self.old) e }
+        ensures answer { result ≡ enter_answer E.key (places_of self.old) (entries_of self.old) e }
+        ensures entries { entries_of self.new ≡ entered E.key (places_of self.old) (entries_of self.old) e }
+        ensures unused { unused_of self.new ≡ unused_after E.key (places_of self.old) (entries_of self.old) (unused_of self.old) e }
         ensures kept { Keeps self.old self.new }
         ensures places { places_of self.new ≡ places_of self.old }
         ensures refused { Unchanged result self.old self.new }
@@ -69,7 +69,7 @@ impl<'a, E: Dated + Copy> Book<'a, E> {
 
     // Whether the day of e is above the last entry's.
     fn may_follow(&self, e: &E) -> bool
-        ensures { result ≡ above (last_key key (entries_of self.now)) (key e.now) }
+        ensures { result ≡ above (last_key E.key (entries_of self.now)) (E.key e.now) }
     {
         match self.last_day() {
             Some(last) => last < e.day(),
@@ -78,7 +78,7 @@ impl<'a, E: Dated + Copy> Book<'a, E> {
     }
 
     fn last_day(&self) -> Option<u32>
-        ensures { result ≡ last_key key (entries_of self.now) }
+        ensures { result ≡ last_key E.key (entries_of self.now) }
     {
         let [.., last] = self.entries() else {
             return None;

@@ -9,7 +9,7 @@ use std::alloc::AllocError;
 use std::fmt::Display;
 
 pub fn put_line<L: Display + Drop>(out: &mut String, line: L) -> Result<(), AllocError>
-    ensures { OnOk result (IfSome (output line) (λ bs. string_bytes out.new ≡ string_bytes out.old ++ (bs ++ (10 ∷ [])))) }
+    ensures { OnOk result (IfSome (L.output line) (λ bs. string_bytes out.new ≡ string_bytes out.old ++ (bs ++ (10 ∷ [])))) }
 {
     match writeln!(out, "{line}") {
         Ok(()) => Ok(()),
