@@ -1,26 +1,25 @@
 -- A count record on plain data.
-use Rattle.std.proofs.Common.{◌≡◌, ℕ, ◌+◌, ◌<◌, ◌≤◌, Bool, true, false, cond, ◌&&◌, eqb, ltb, leb, List, [], ◌∷◌, ◌++◌, map, length, Some, None, Ok, Err, Option, Result, sym, refl, ap, ◌∙◌, ap₂, arith}
+use Rattle.std.proofs.Common.{◌≡◌, ℕ, ◌+◌, ◌≤◌, Bool, true, false, cond, eqb, ltb, List, [], ◌∷◌, map, length, Ok, Err, Result, refl, ap, ◌∙◌, arith}
 use Rattle.std.proofs.lemmas.Bool.Decides.{nat_tests}
 use Rattle.edetector.specs.declared.state.State.{State}
 use Rattle.edetector.specs.declared.state.State.TheVariants.{Armed, Staked, Rung}
 use Rattle.edetector.specs.declared.slip.OpenSlip.{OpenSlip}
-use Rattle.edetector.specs.declared.slip.ShownSlip.{ShownSlip}
 use Rattle.edetector.specs.declared.fault.MonitorFault.{MonitorFault}
-use Rattle.edetector.specs.declared.fault.MonitorFault.TheVariants.{Spent, Misfit}
+use Rattle.edetector.specs.declared.fault.MonitorFault.TheVariants.{Spent}
 use Rattle.edetector.specs.Tables.{class_of}
 use Rattle.edetector.specs.Bettors.{Strategy}
-use Rattle.edetector.specs.Ledger.{Terms, Standing, outcome, fitting, rings, staked, settled, settling}
+use Rattle.edetector.specs.Ledger.{Terms, Standing, outcome, rings, staked, settled}
 use Rattle.edetector.specs.View.{standing}
 use Rattle.playback.specs.declared.stop.ReplayFault.{ReplayFault}
 use Rattle.playback.specs.declared.stop.ReplayFault.TheVariants.{Book}
 use Rattle.daybook.specs.declared.fault.BookFault.TheVariants.{Full}
 use Rattle.daybook.specs.declared.entry.unwatched.Unwatched.{Unwatched}
 use Rattle.playback.specs.declared.progress.Progress.{Progress}
-use Rattle.daybook.specs.Books.{above, last_key}
+use Rattle.daybook.specs.Books.{above}
 use Rattle.daybook.specs.Entries.{AlarmView}
 use Rattle.playback.specs.Held.{noted_if}
-use Rattle.playback.specs.Rising.{above_in, Later, Rising}
-use Rattle.playback.specs.Watch.{Watch, Places, Done, done, taken, faulted, round_done, watched_count, counted, round, Round, rung, settled_slip, shown, watched, full, by_state, count_read}
+use Rattle.playback.specs.Rising.{above_in}
+use Rattle.playback.specs.Watch.{Watch, Places, done, faulted, round_done, watched_count, round, rung, settled_slip, shown, watched, full, count_read}
 
 -- a refusal differs from a taken round
 refused_not_taken : (f : ReplayFault) (s s' : Standing) (ents ents' : List AlarmView) → round (Err f) s ents ≡ round (Ok tt) s' ents' → ⊥

@@ -1,5 +1,5 @@
 -- Every replay has a course, and it leaves no record out.
-use Rattle.std.proofs.Common.{◌≡◌, ℕ, ◌+◌, ◌*◌, ◌≤◌, Bool, true, false, cond, ◌&&◌, eqb, ltb, leb, List, [], ◌∷◌, ◌++◌, length, Some, None, Ok, Err, Option, Result, sym, refl, ap, ◌∙◌, subst, ap₂, inl, inr, append_assoc, arith}
+use Rattle.std.proofs.Common.{◌≡◌, ℕ, ◌+◌, ◌*◌, Bool, true, false, cond, ◌&&◌, eqb, ltb, leb, List, [], ◌∷◌, ◌++◌, length, None, Ok, Err, Option, Result, sym, refl, ap, ◌∙◌, subst, ap₂, inl, inr, append_assoc, arith}
 use Rattle.std.proofs.lemmas.List.{append-nil}
 use Rattle.std.proofs.lemmas.Bool.{eqb-true}
 use Rattle.std.proofs.lemmas.Bool.Decides.{nat_tests}
@@ -14,7 +14,7 @@ use Rattle.edetector.specs.Plans.{next}
 use Rattle.edetector.specs.Rules.{bet}
 use Rattle.edetector.specs.Tables.{class_of}
 use Rattle.edetector.specs.Bettors.{Strategy}
-use Rattle.edetector.specs.Ledger.{Terms, Standing, outcome, staked, settled, rings, rearming}
+use Rattle.edetector.specs.Ledger.{Terms, Standing, outcome, staked, settled, rings}
 use Rattle.edetector.specs.View.{standing}
 use Rattle.plantlog.specs.Format.{Fields, Table, Setup, Alternative, Count, Rearm, End}
 use Rattle.daybook.specs.declared.entry.unwatched.Unwatched.{Unwatched}
@@ -26,9 +26,9 @@ use Rattle.playback.specs.declared.stop.Fault.{Fault}
 use Rattle.plantlog.specs.declared.fault.RecordFault.TheVariants.{NoneLeft}
 use Rattle.daybook.specs.declared.fault.BookFault.TheVariants.{Full}
 use Rattle.playback.specs.Stream.{Stream, Over, Broken, Next}
-use Rattle.playback.specs.Watch.{Watch, Places, Done, done, taken, faulted, counted, alarm_if, Round, round, rung, shown, watched, round_done, full, by_state, count_read, rearm_read, rearm_leads, of_monitor, restood}
+use Rattle.playback.specs.Watch.{Watch, Places, Done, taken, faulted, counted, alarm_if, Round, shown, watched, round_done, full, by_state, count_read, rearm_read}
 use Rattle.playback.specs.Replaying.{Spot, behind, Finish, went, stopped, fault_at, at_end, watching}
-use Rattle.playback.specs.Course.{Event, Settled, Passed, Rearmed, after_event, after_all, alarm_of, alarms_of, unwatched_of, counts_of, passed_in, recursion, is_count, Rightly, AllRightly, EventsOf, EventOf, behind_all, Reached, Course, HasCourse, WholeCourse, HasWholeCourse}
+use Rattle.playback.specs.Course.{Event, Settled, Passed, Rearmed, after_event, after_all, alarm_of, alarms_of, unwatched_of, passed_in, is_count, Rightly, AllRightly, EventOf, behind_all, Reached, HasCourse, WholeCourse, HasWholeCourse}
 use Rattle.playback.proofs.Counting.{settled_fits}
 
 -- nothing more happens
@@ -64,7 +64,7 @@ begins t f n rest at w w1 end e of right es ea eu ec whole =
         unwatched = c.unwatched ∙ ap (λ u. u ++ unwatched_of c.events) eu ∙ append_assoc w.unwatched (passed_in e) (unwatched_of c.events);
         counts = omega (arith, c.counts, ec);
         rightly = (right, subst (λ (s : Standing). AllRightly t s c.events) es c.rightly);
-        of_log = (of, c.of-log);
+        of_log = (of, c.of_log);
       };
       reached =
           let longer : at.number + 1 + length c.events ≡ at.number + length (e ∷ c.events) = omega arith in

@@ -1,8 +1,8 @@
 -- What asking tells of the next record.
-use Rattle.std.proofs.Common.{◌≡◌, ℕ, ◌≤◌, Bool, true, false, cond, leb, List, [], ◌∷◌, Some, None, Ok, Err, Option, Result, sym, refl, ap, ◌∙◌, arith}
+use Rattle.std.proofs.Common.{◌≡◌, ℕ, List, [], ◌∷◌, Some, None, Ok, Err, Result, refl, arith}
 use Rattle.plantlog.specs.declared.fault.RecordFault.{RecordFault}
 use Rattle.plantlog.specs.declared.fault.RecordFault.TheVariants.{NoneLeft}
-use Rattle.plantlog.specs.Results.{of_ok, and_then}
+use Rattle.plantlog.specs.Results.{of_ok}
 use Rattle.plantlog.specs.Format.{Fields}
 use Rattle.plantlog.specs.FirstRecord.{first_record, front}
 use Rattle.plantlog.specs.Calls.{asked, next_in}

@@ -1,5 +1,5 @@
 -- The header on plain data.
-use Rattle.std.proofs.Common.{◌≡◌, ℕ, ◌+◌, Bool, true, false, cond, eqb, List, [], ◌∷◌, length, drop, Ok, Err, Result, sym, refl, ap, ◌∙◌, ap₂, arith}
+use Rattle.std.proofs.Common.{◌≡◌, ℕ, ◌+◌, true, false, eqb, List, [], length, drop, Ok, Err, Result, sym, refl, ap, ◌∙◌, ap₂, arith}
 use Rattle.std.proofs.lemmas.List.{drop-drop}
 use Rattle.std.proofs.lemmas.Bool.{eq-eqb}
 use Rattle.edetector.specs.Bettors.{Strategy, fixed, adaptive, mixture, no_tally}
@@ -27,11 +27,11 @@ use Rattle.plantlog.specs.Calls.{span}
 use Rattle.plantlog.specs.Position.{Position}
 use Rattle.playback.specs.declared.stop.ReplayFault.{ReplayFault}
 use Rattle.playback.specs.Front.{Settings, settings_of, next_fields, table_next, setup_next, alternative_next, only_table, only_setup, only_alternative}
-use Rattle.playback.specs.Stream.{Stream, Next, stream_of}
+use Rattle.playback.specs.Stream.{stream_of}
 use Rattle.playback.specs.Watch.{Places}
 use Rattle.playback.specs.Replaying.{Spot, behind}
 use Rattle.playback.specs.Stepping.{spot_of}
-use Rattle.playback.specs.Replayed.{Replay, head_of, rest_of, taken_of, monitored, with_alternative, third, after_setup, second, after_table, first, replayed, no_monitor}
+use Rattle.playback.specs.Replayed.{head_of, rest_of, taken_of, monitored, with_alternative, third, after_setup, second, after_table, first, replayed, no_monitor}
 use Rattle.playback.proofs.Steps.{streams, head_is}
 
 -- the bytes behind a record that was moved past

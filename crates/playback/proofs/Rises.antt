@@ -1,5 +1,5 @@
 -- Days go on rising.
-use Rattle.std.proofs.Common.{◌≡◌, ℕ, ◌+◌, ◌<◌, Bool, true, false, cond, ltb, ◌⊎◌, List, [], ◌∷◌, ◌++◌, length, Some, None, Ok, Err, Option, Result, sym, refl, ap, ◌∙◌, subst, inl, inr, ⊎_elim, arith}
+use Rattle.std.proofs.Common.{◌≡◌, ℕ, Bool, true, false, cond, ltb, ◌⊎◌, List, [], ◌∷◌, ◌++◌, length, Some, None, Ok, Err, Option, Result, sym, refl, ap, ◌∙◌, subst, inl, inr, arith}
 use Rattle.std.proofs.lemmas.Bool.Decides.{nat_tests}
 use Rattle.edetector.specs.declared.state.State.{State}
 use Rattle.edetector.specs.declared.state.State.TheVariants.{Armed, Staked, Rung}
@@ -12,7 +12,7 @@ use Rattle.playback.specs.declared.stop.ReplayFault.{ReplayFault}
 use Rattle.playback.specs.declared.stop.ReplayFault.TheVariants.{Book, DayNotAbove}
 use Rattle.daybook.specs.declared.fault.BookFault.TheVariants.{Full}
 use Rattle.daybook.specs.declared.entry.unwatched.Unwatched.{Unwatched}
-use Rattle.daybook.specs.Books.{above, last_key}
+use Rattle.daybook.specs.Books.{above}
 use Rattle.daybook.specs.Entries.{AlarmView}
 use Rattle.playback.specs.Rising.{above_in, Later, Rising}
 use Rattle.playback.specs.Watch.{Watch, Places, Done, done, faulted, counted, rung, shown, watched, round_done, full, by_state, count_read}

@@ -1,12 +1,12 @@
 -- A watched count on plain data.
-use Rattle.std.proofs.Common.{◌≡◌, ℕ, Bool, true, false, cond, leb, List, [], ◌∷◌, ◌++◌, map, length, Ok, Err, sym, refl, ap, ◌∙◌}
+use Rattle.std.proofs.Common.{◌≡◌, ℕ, Bool, true, false, leb, List, [], ◌∷◌, ◌++◌, map, length, Ok, sym, refl, ap, ◌∙◌}
 use Rattle.std.proofs.lemmas.List.{map_push}
 use Rattle.edetector.specs.declared.slip.ShownSlip.{ShownSlip}
 use Rattle.edetector.specs.Ledger.{Terms, Standing, outcome, settling}
 use Rattle.daybook.specs.declared.entry.alarm.Alarm.{Alarm}
 use Rattle.daybook.specs.Books.{entered}
 use Rattle.playback.specs.Rising.{above_in}
-use Rattle.daybook.specs.Entries.{AlarmView, alarm_view}
+use Rattle.daybook.specs.Entries.{alarm_view}
 use Rattle.playback.specs.Watch.{round, alarm_if, rung, settled_slip}
 
 -- an entry with a place free and a later day stands last

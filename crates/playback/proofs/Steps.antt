@@ -1,11 +1,11 @@
 -- What one record does to the rest of a replay.
-use Rattle.std.proofs.Common.{◌≡◌, ℕ, ◌+◌, ◌-◌, ◌<◌, ◌≤◌, Bool, true, false, cond, List, [], ◌∷◌, length, drop, Some, None, Ok, Err, Option, Result, sym, refl, ap, ◌∙◌, ap₂, arith, length-drop}
+use Rattle.std.proofs.Common.{◌≡◌, ℕ, ◌+◌, ◌<◌, ◌≤◌, true, false, List, [], ◌∷◌, length, drop, Ok, Err, Result, sym, refl, ap, ◌∙◌, ap₂, arith, length-drop}
 use Rattle.std.proofs.lemmas.List.{drop-drop}
 use Rattle.edetector.specs.Ledger.{Terms}
 use Rattle.plantlog.specs.declared.fault.RecordFault.{RecordFault}
 use Rattle.plantlog.specs.declared.fault.RecordFault.TheVariants.{NoneLeft}
 use Rattle.plantlog.specs.declared.record.Kind.{Kind}
-use Rattle.plantlog.specs.declared.record.Kind.TheVariants.{Table as ATable, Setup as ASetup, Alternative as AnAlternative, Count as ACount, Rearm as ARearm, End as AnEnd}
+use Rattle.plantlog.specs.declared.record.Kind.TheVariants.{Count as ACount, Rearm as ARearm, End as AnEnd}
 use Rattle.plantlog.specs.Results.{of_ok}
 use Rattle.plantlog.specs.Format.{Fields, Table, Setup, Alternative, Count, Rearm, End}
 use Rattle.plantlog.specs.FirstRecord.{first_record}
@@ -16,12 +16,12 @@ use Rattle.plantlog.proofs.WrittenSo.{left_behind}
 use Rattle.playback.specs.declared.stop.ReplayFault.{ReplayFault}
 use Rattle.playback.specs.declared.stop.ReplayFault.TheVariants.{Record, NotAllowed}
 use Rattle.playback.specs.Front.{of_record, next_fields, moved_past, count_next, end_next}
-use Rattle.playback.specs.Stream.{Stream, Over, Broken, Next, stream_of}
+use Rattle.playback.specs.Stream.{Stream, Next, stream_of}
 use Rattle.playback.specs.Watch.{Watch, Places, Done, done, count_read, rearm_read, end_read}
-use Rattle.playback.specs.Replaying.{Spot, Finish, went, stopped, fault_at, behind, at_end, watching}
+use Rattle.playback.specs.Replaying.{Spot, went, stopped, fault_at, behind, at_end, watching}
 use Rattle.playback.specs.Replayed.{head_of}
 use Rattle.playback.specs.Rising.{Rising}
-use Rattle.playback.specs.Stepping.{spot_of, Stepped, Goes_on, IfOn}
+use Rattle.playback.specs.Stepping.{spot_of, Stepped, GoesOn, IfOn}
 use Rattle.playback.proofs.Rises.{count_rises}
 use Rattle.playback.proofs.Fronts.{none_in_front}
 use Rattle.playback.proofs.Streams.{stream_next, stream_broken}
@@ -184,16 +184,16 @@ shorter_left left left' f e behind =
     omega (arith, ap length behind, length-drop (span left) left, some, span_some left some)
 
 module _ (left : List ℕ) (pos : Position) (w : Watch) (left' : List ℕ) (pos' : Position) (w' : Watch) where
-  goes : (f : Fields) → next_fields left ≡ Ok f → Rising w' → w'.counts ≤ pos.records + 1 → (r : Result (Unit {0}) ReplayFault) → r ≡ Ok tt → Moves r left pos left' pos' → Goes_on left left' pos' w'
+  goes : (f : Fields) → next_fields left ≡ Ok f → Rising w' → w'.counts ≤ pos.records + 1 → (r : Result (Unit {0}) ReplayFault) → r ≡ Ok tt → Moves r left pos left' pos' → GoesOn left left' pos' w'
   goes f e rises fewer (Ok u) is m = record { rising = rises; fewer = omega (arith, fewer, ap (λ q. q.records) m.0); shorter = shorter_left left left' f e m.1 }
   goes f e rises fewer (Err x) is m = let z : ◌≡◌ {A = ℕ} 0 1 = cc in absurd (omega arith)
 
   pub count_goes : (t : Terms) (p : Places) (r : Result (Unit {0}) ReplayFault) (day : ℕ) → of_ok kind_of (next_fields left) ≡ Ok (ACount day) → done r w' ≡ count_read t p w (pos.records + 1) day (count_next (next_fields left)) →
-      Moves r left pos left' pos' → Rising w → w.counts ≤ pos.records → w'.counts ≤ w.counts + 1 → IfOn (of_ok (λ _. true) r) (Goes_on left left' pos' w')
+      Moves r left pos left' pos' → Rising w → w.counts ≤ pos.records → w'.counts ≤ w.counts + 1 → IfOn (of_ok (λ _. true) r) (GoesOn left left' pos' w')
   count_goes t p (Ok u) day kind e m rises fewer more = goes _ (a_count left day kind) (count_rises t p w w' _ day _ e rises) (omega (arith, fewer, more)) (Ok u) refl m
   count_goes t p (Err f) day kind e m rises fewer more = tt
 
-  pub rearm_goes : (r : Result (Unit {0}) ReplayFault) → of_ok kind_of (next_fields left) ≡ Ok ARearm → Moves r left pos left' pos' → Rising w' → w'.counts ≤ pos.records → IfOn (of_ok (λ _. true) r) (Goes_on left left' pos' w')
+  pub rearm_goes : (r : Result (Unit {0}) ReplayFault) → of_ok kind_of (next_fields left) ≡ Ok ARearm → Moves r left pos left' pos' → Rising w' → w'.counts ≤ pos.records → IfOn (of_ok (λ _. true) r) (GoesOn left left' pos' w')
   rearm_goes (Ok u) kind m rises fewer = goes _ (a_rearm left kind) rises (omega (arith, fewer)) (Ok u) refl m
   rearm_goes (Err f) kind m rises fewer = tt
 

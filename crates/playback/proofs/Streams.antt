@@ -1,5 +1,5 @@
 -- A log as a stream of records.
-use Rattle.std.proofs.Common.{◌≡◌, ℕ, zero, suc, ◌+◌, ◌<◌, ◌≤◌, List, [], ◌∷◌, length, drop, Ok, Err, Result, sym, refl, ap, ◌∙◌, le_of_suc-le-suc, not-suc-le-zero, arith, length-drop}
+use Rattle.std.proofs.Common.{◌≡◌, ℕ, zero, suc, ◌+◌, ◌≤◌, List, [], ◌∷◌, length, Ok, Err, Result, sym, refl, ap, ◌∙◌, not-suc-le-zero, arith, length-drop}
 use Rattle.plantlog.specs.declared.fault.RecordFault.{RecordFault}
 use Rattle.plantlog.specs.Format.{Fields}
 use Rattle.plantlog.specs.FirstRecord.{first_record}
@@ -7,7 +7,7 @@ use Rattle.plantlog.specs.Calls.{span}
 use Rattle.plantlog.proofs.WrittenSo.{left_behind}
 use Rattle.plantlog.specs.declared.fault.RecordFault.TheVariants.{NoneLeft}
 use Rattle.playback.proofs.Fronts.{none_in_front}
-use Rattle.playback.specs.Stream.{Stream, Over, Broken, Next, opened, stream_by, stream_of}
+use Rattle.playback.specs.Stream.{Stream, Broken, Next, opened, stream_by, stream_of}
 
 -- what a record leaves is shorter
 shorter : (b : ℕ) (bs : List ℕ) (f : Fields) (rest : List ℕ) → first_record (b ∷ bs) ≡ Ok (f, rest) → length rest ≤ length bs

@@ -1,11 +1,11 @@
 -- What happens in a replay, in the order of the log: a law over whole replays, whatever the log.
-use Rattle.std.specs.Prelude.{◌≡◌, ℕ, ◌+◌, ◌*◌, ◌/◌, Bool, true, false, cond, ◌⊎◌, List, [], ◌∷◌, ◌++◌, length, Some, None, Option, nat_le, slice_index}
+use Rattle.std.specs.Prelude.{◌≡◌, ℕ, ◌+◌, ◌*◌, ◌/◌, ◌⊎◌, List, [], ◌∷◌, ◌++◌, length, Some, None, Option, nat_le, slice_index}
 use Rattle.edetector.specs.declared.state.State.TheVariants.{Armed, Rung}
 use Rattle.edetector.specs.Rules.{bet}
 use Rattle.edetector.specs.Tables.{class_of}
 use Rattle.edetector.specs.Ledger.{Terms, Standing, staking, rearming}
 use Rattle.edetector.specs.Plans.{next}
-use Rattle.plantlog.specs.Format.{Fields, Table, Setup, Alternative, Count, Rearm, End}
+use Rattle.plantlog.specs.Format.{Fields, Count, Rearm, End}
 use Rattle.daybook.specs.declared.entry.unwatched.Unwatched.{Unwatched}
 use Rattle.daybook.specs.Entries.{AlarmView}
 use Rattle.playback.specs.declared.stop.ReplayFault.TheVariants.{Trailing}

@@ -1,10 +1,8 @@
 -- The listing of a replay, line by line.
 use Rattle.std.specs.Prelude.{ℕ, cond, List, [], ◌∷◌, ◌++◌, length, Some, None, Option, ◌==◌}
 use Rattle.edetector.specs.Ledger.{Told}
-use Rattle.daybook.specs.declared.entry.unwatched.Unwatched.{Unwatched}
 use Rattle.daybook.specs.declared.line.setup.RuleLetter.{RuleLetter}
 use Rattle.daybook.specs.declared.line.setup.RuleLetter.TheVariants.{S, P}
-use Rattle.daybook.specs.Entries.{AlarmView}
 use Rattle.daybook.specs.Lines.{monitor_line, alarm_lines, unwatched_lines, end_line, fault_line}
 use Rattle.playback.specs.declared.stop.Fault.{Fault}
 use Rattle.playback.specs.Stops.{stop_number, stop_layer}

@@ -1,10 +1,10 @@
 -- A whole replay: the header, then counts and rearms to the end.
-use Rattle.std.specs.Prelude.{ℕ, ◌+◌, Bool, true, false, cond, List, [], ◌∷◌, length, Some, None, Ok, Err, Option, Result, ◌==◌, nat_le}
+use Rattle.std.specs.Prelude.{ℕ, cond, List, [], length, None, Ok, Err, Option, Result, ◌==◌, nat_le}
 use Rattle.edetector.specs.declared.value.ValueFault.TheVariants.{Alternative as UnlikeClasses, Threshold}
 use Rattle.edetector.specs.Tables.{total, from_to}
 use Rattle.edetector.specs.Rules.{shiryaev_roberts, page}
 use Rattle.edetector.specs.Bettors.{Strategy, fixed, adaptive, mixture, no_tally}
-use Rattle.edetector.specs.Ledger.{Terms, Standing, Told, fresh, reading}
+use Rattle.edetector.specs.Ledger.{Terms, Told, fresh, reading}
 use Rattle.edetector.specs.View.{terms}
 use Rattle.plantlog.specs.declared.fault.RecordFault.TheVariants.{NoneLeft}
 use Rattle.plantlog.specs.Results.{and_then}

@@ -1,18 +1,13 @@
 -- A replay: the log's records, one after the other, until its end or the first fault.
-use Rattle.std.specs.Prelude.{ℕ, ◌+◌, Bool, true, false, cond, eqb, List, [], ◌∷◌, length, Some, None, Ok, Err, Option, Result}
-use Rattle.edetector.specs.declared.value.ValueFault.TheVariants.{Alternative as UnlikeClasses}
-use Rattle.edetector.specs.Tables.{total}
-use Rattle.edetector.specs.Rules.{shiryaev_roberts, page}
-use Rattle.edetector.specs.Bettors.{Strategy, fixed, adaptive, mixture, no_tally}
-use Rattle.edetector.specs.Ledger.{Terms, Standing, fresh}
-use Rattle.edetector.specs.View.{terms}
+use Rattle.std.specs.Prelude.{ℕ, ◌+◌, Some, None, Ok, Err, Option, Result}
+use Rattle.edetector.specs.Ledger.{Terms}
 use Rattle.plantlog.specs.declared.fault.RecordFault.TheVariants.{NoneLeft}
-use Rattle.plantlog.specs.Format.{Fields, Table, Setup, Alternative, Count, Rearm, End}
+use Rattle.plantlog.specs.Format.{Table, Setup, Alternative, Count, Rearm, End}
 use Rattle.playback.specs.declared.stop.ReplayFault.{ReplayFault}
-use Rattle.playback.specs.declared.stop.ReplayFault.TheVariants.{Record, Value, NotAllowed, Trailing}
+use Rattle.playback.specs.declared.stop.ReplayFault.TheVariants.{Record, NotAllowed, Trailing}
 use Rattle.playback.specs.declared.stop.Fault.{Fault}
 use Rattle.playback.specs.Stream.{Stream, Over, Broken, Next}
-use Rattle.playback.specs.Watch.{Watch, Places, Done, count_read, rearm_read, end_read}
+use Rattle.playback.specs.Watch.{Watch, Places, count_read, rearm_read, end_read}
 
 -- the next record's number from 1, and the byte from 0 where it begins
 pub record Spot : Type 0 where

@@ -6,7 +6,7 @@ use Rattle.playback.specs.declared.stop.ReplayFault.{ReplayFault}
 use Rattle.playback.specs.Stream.{stream_of}
 use Rattle.playback.specs.Watch.{Watch, Places}
 use Rattle.playback.specs.Rising.{Rising}
-use Rattle.playback.specs.Replaying.{Spot, Finish, stopped, fault_at, at_end, watching}
+use Rattle.playback.specs.Replaying.{Spot, stopped, fault_at, at_end, watching}
 
 -- the next record's number and byte
 abbrev pub spot_of : Position → Spot
@@ -19,7 +19,7 @@ Stepped t p left pos w (Ok false) left' pos' w' = watching t p (stream_of left) 
 Stepped t p left pos w (Err f) left' pos' w' = watching t p (stream_of left) (spot_of pos) w ≡ stopped w' (fault_at (spot_of pos) f)
 
 -- a replay can go on: days rise, counts are records, and fewer bytes are left than before
-pub record Goes_on (left left' : List ℕ) (pos : Position) (w : Watch) : Type 0 where
+pub record GoesOn (left left' : List ℕ) (pos : Position) (w : Watch) : Type 0 where
   pub rising : Rising w
   pub fewer : w.counts ≤ pos.records
   pub shorter : length left' < length left

@@ -1,5 +1,4 @@
 -- What a replay's report says.
-use Rattle.std.specs.Prelude.{List}
 use Rattle.edetector.specs.View.{told_by}
 use Rattle.plantlog.specs.Choices.{rule_number}
 use Rattle.daybook.specs.declared.book.Book.{Book}

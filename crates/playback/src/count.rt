@@ -89,11 +89,11 @@ fn armed_count<B: Bettor, R: RestartRule>(
     requires room { nat_le (places_of alarms.old) (length (entries_of alarms.old)) ≡ false }
     requires rises { above_in (λ a. a.day) (entries_of alarms.old) day ≡ true }
     requires fewer { progress.old.counts ≤ (position reader.old).records }
-    ensures does { leads result (view nulls strategy monitor.new) (alarms_in alarms.new) ≡ watched (terms_of nulls base monitor.old) (view nulls strategy monitor.old) (alarms_in alarms.old) day (count_next (next_fields (left_in reader.old))) }
+    ensures does { leads result (view B.nulls B.strategy monitor.new) (alarms_in alarms.new) ≡ watched (terms_of B.nulls R.base monitor.old) (view B.nulls B.strategy monitor.old) (alarms_in alarms.old) day (count_next (next_fields (left_in reader.old))) }
     ensures progress { progress.new ≡ noted_if result day progress.old }
     ensures moved { moved_past result (left_in reader.old) (position reader.old) (position reader.new) }
     ensures log { log_of reader.new ≡ log_of reader.old }
-    ensures terms { terms_of nulls base monitor.new ≡ terms_of nulls base monitor.old }
+    ensures terms { terms_of B.nulls R.base monitor.new ≡ terms_of B.nulls R.base monitor.old }
     ensures places { places_of alarms.new ≡ places_of alarms.old }
     ensures kept { Keeps alarms.old alarms.new }
 {
@@ -113,12 +113,12 @@ pub(super) fn count<B: Bettor, R: RestartRule>(
 ) -> Result<(), ReplayFault>
     requires buffer { 63 ≤ length buffer.old }
     requires count { of_ok kind_of (next_fields (left_in reader.old)) ≡ Ok (ACount day) }
-    requires rises { Rising (watch_of (view nulls strategy monitor.old) progress.old alarms.old unwatched.old) }
+    requires rises { Rising (watch_of (view B.nulls B.strategy monitor.old) progress.old alarms.old unwatched.old) }
     requires fewer { progress.old.counts ≤ (position reader.old).records }
-    ensures does { done result (watch_of (view nulls strategy monitor.new) progress.new alarms.new unwatched.new) ≡ count_read (terms_of nulls base monitor.old) (places_in alarms.old unwatched.old) (watch_of (view nulls strategy monitor.old) progress.old alarms.old unwatched.old) ((position reader.old).records + 1) day (count_next (next_fields (left_in reader.old))) }
+    ensures does { done result (watch_of (view B.nulls B.strategy monitor.new) progress.new alarms.new unwatched.new) ≡ count_read (terms_of B.nulls R.base monitor.old) (places_in alarms.old unwatched.old) (watch_of (view B.nulls B.strategy monitor.old) progress.old alarms.old unwatched.old) ((position reader.old).records + 1) day (count_next (next_fields (left_in reader.old))) }
     ensures moved { moved_past result (left_in reader.old) (position reader.old) (position reader.new) }
     ensures log { log_of reader.new ≡ log_of reader.old }
-    ensures terms { terms_of nulls base monitor.new ≡ terms_of nulls base monitor.old }
+    ensures terms { terms_of B.nulls R.base monitor.new ≡ terms_of B.nulls R.base monitor.old }
     ensures places { places_in alarms.new unwatched.new ≡ places_in alarms.old unwatched.old }
     ensures kept { Keeps alarms.old alarms.new × Keeps unwatched.old unwatched.new }
     ensures fewer { progress.new.counts ≤ progress.old.counts + 1 }

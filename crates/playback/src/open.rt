@@ -51,12 +51,12 @@ fn run<B: Bettor + Drop>(
     alarms: &mut Book<'_, Alarm>,
     unwatched: &mut Book<'_, Unwatched>,
 ) -> Report
-    requires table { nulls bettor ≡ null_weights null }
+    requires table { B.nulls bettor ≡ null_weights null }
     requires whole { len ≡ length (log_of reader.old) }
     requires short { len ≤ 65536 }
     requires buffer { 63 ≤ length buffer.old }
     requires empty { (entries_of alarms.old ≡ []) × (entries_of unwatched.old ≡ []) }
-    ensures value { replay_told result alarms.new unwatched.new ≡ monitored (places_in alarms.old unwatched.old) (null_weights null) (settings_of setup) (strategy bettor) (stream_of (left_in reader.old)) (spot_of (position reader.old)) }
+    ensures value { replay_told result alarms.new unwatched.new ≡ monitored (places_in alarms.old unwatched.old) (null_weights null) (settings_of setup) (B.strategy bettor) (stream_of (left_in reader.old)) (spot_of (position reader.old)) }
     ensures places { places_in alarms.new unwatched.new ≡ places_in alarms.old unwatched.old }
     ensures kept { Keeps alarms.old alarms.new × Keeps unwatched.old unwatched.new }
 {

@@ -28,12 +28,12 @@ fn settle_shown<B: Bettor, R: RestartRule>(
     day: u32,
     alarms: &mut Book<'_, Alarm>,
 ) -> Result<(), ReplayFault>
-    requires fits { fitting (terms_of nulls base monitor.old) (view nulls strategy monitor.old) slip.tag slip.number ≡ true }
+    requires fits { fitting (terms_of B.nulls R.base monitor.old) (view B.nulls B.strategy monitor.old) slip.tag slip.number ≡ true }
     requires room { nat_le (places_of alarms.old) (length (entries_of alarms.old)) ≡ false }
     requires rises { above_in (λ a. a.day) (entries_of alarms.old) day ≡ true }
-    ensures does { leads result (view nulls strategy monitor.new) (alarms_in alarms.new) ≡ settled_slip (terms_of nulls base monitor.old) (view nulls strategy monitor.old) (alarms_in alarms.old) day slip }
+    ensures does { leads result (view B.nulls B.strategy monitor.new) (alarms_in alarms.new) ≡ settled_slip (terms_of B.nulls R.base monitor.old) (view B.nulls B.strategy monitor.old) (alarms_in alarms.old) day slip }
     ensures ok { result ≡ Ok tt }
-    ensures terms { terms_of nulls base monitor.new ≡ terms_of nulls base monitor.old }
+    ensures terms { terms_of B.nulls R.base monitor.new ≡ terms_of B.nulls R.base monitor.old }
     ensures places { places_of alarms.new ≡ places_of alarms.old }
     ensures kept { Keeps alarms.old alarms.new }
 {
@@ -66,10 +66,10 @@ pub(super) fn watch_count<B: Bettor, R: RestartRule>(
     requires count { of_ok kind_of (next_fields (left_in reader.old)) ≡ Ok (ACount day) }
     requires room { nat_le (places_of alarms.old) (length (entries_of alarms.old)) ≡ false }
     requires rises { above_in (λ a. a.day) (entries_of alarms.old) day ≡ true }
-    ensures does { leads result (view nulls strategy monitor.new) (alarms_in alarms.new) ≡ watched (terms_of nulls base monitor.old) (view nulls strategy monitor.old) (alarms_in alarms.old) day (count_next (next_fields (left_in reader.old))) }
+    ensures does { leads result (view B.nulls B.strategy monitor.new) (alarms_in alarms.new) ≡ watched (terms_of B.nulls R.base monitor.old) (view B.nulls B.strategy monitor.old) (alarms_in alarms.old) day (count_next (next_fields (left_in reader.old))) }
     ensures moved { moved_past result (left_in reader.old) (position reader.old) (position reader.new) }
     ensures log { log_of reader.new ≡ log_of reader.old }
-    ensures terms { terms_of nulls base monitor.new ≡ terms_of nulls base monitor.old }
+    ensures terms { terms_of B.nulls R.base monitor.new ≡ terms_of B.nulls R.base monitor.old }
     ensures places { places_of alarms.new ≡ places_of alarms.old }
     ensures kept { Keeps alarms.old alarms.new }
 {

@@ -23,10 +23,10 @@ pub(super) fn rearm<B: Bettor, R: RestartRule>(
 ) -> Result<(), ReplayFault>
     requires buffer { 63 ≤ length buffer.old }
     requires rearm { of_ok kind_of (next_fields (left_in reader.old)) ≡ Ok ARearm }
-    ensures does { outcome result (view nulls strategy monitor.new) ≡ rearm_leads (terms_of nulls base monitor.old) (view nulls strategy monitor.old) }
+    ensures does { outcome result (view B.nulls B.strategy monitor.new) ≡ rearm_leads (terms_of B.nulls R.base monitor.old) (view B.nulls B.strategy monitor.old) }
     ensures moved { moved_past result (left_in reader.old) (position reader.old) (position reader.new) }
     ensures log { log_of reader.new ≡ log_of reader.old }
-    ensures terms { terms_of nulls base monitor.new ≡ terms_of nulls base monitor.old }
+    ensures terms { terms_of B.nulls R.base monitor.new ≡ terms_of B.nulls R.base monitor.old }
 {
     let _ = reader.read(buffer)?;
     monitor.rearm()?;

@@ -7,7 +7,7 @@ ghost use Rattle.daybook.specs.Books.{Keeps};
 ghost use Rattle.playback.specs.Held.{watch_of, places_in};
 ghost use Rattle.playback.specs.Rising.{Rising};
 ghost use Rattle.playback.specs.Replaying.{stopped, at_end, watching};
-ghost use Rattle.playback.specs.Stepping.{spot_of, Stepped, Goes_on, IfOn};
+ghost use Rattle.playback.specs.Stepping.{spot_of, Stepped, GoesOn, IfOn};
 ghost use Rattle.playback.specs.Stream.{stream_of};
 ghost use Rattle.playback.specs.Watch.{Watch};
 
@@ -45,12 +45,12 @@ fn step<B: Bettor, R: RestartRule>(
     unwatched: &mut Book<'_, Unwatched>,
 ) -> Result<bool, ReplayFault>
     requires buffer { 63 ≤ length buffer.old }
-    requires rises { Rising (watch_of (view nulls strategy monitor.old) progress.old alarms.old unwatched.old) }
+    requires rises { Rising (watch_of (view B.nulls B.strategy monitor.old) progress.old alarms.old unwatched.old) }
     requires fewer { progress.old.counts ≤ (position reader.old).records }
-    ensures does { Stepped (terms_of nulls base monitor.old) (places_in alarms.old unwatched.old) (left_in reader.old) (position reader.old) (watch_of (view nulls strategy monitor.old) progress.old alarms.old unwatched.old) result (left_in reader.new) (position reader.new) (watch_of (view nulls strategy monitor.new) progress.new alarms.new unwatched.new) }
-    ensures goes { IfOn result (Goes_on (left_in reader.old) (left_in reader.new) (position reader.new) (watch_of (view nulls strategy monitor.new) progress.new alarms.new unwatched.new)) }
+    ensures does { Stepped (terms_of B.nulls R.base monitor.old) (places_in alarms.old unwatched.old) (left_in reader.old) (position reader.old) (watch_of (view B.nulls B.strategy monitor.old) progress.old alarms.old unwatched.old) result (left_in reader.new) (position reader.new) (watch_of (view B.nulls B.strategy monitor.new) progress.new alarms.new unwatched.new) }
+    ensures goes { IfOn result (GoesOn (left_in reader.old) (left_in reader.new) (position reader.new) (watch_of (view B.nulls B.strategy monitor.new) progress.new alarms.new unwatched.new)) }
     ensures log { log_of reader.new ≡ log_of reader.old }
-    ensures terms { terms_of nulls base monitor.new ≡ terms_of nulls base monitor.old }
+    ensures terms { terms_of B.nulls R.base monitor.new ≡ terms_of B.nulls R.base monitor.old }
     ensures places { places_in alarms.new unwatched.new ≡ places_in alarms.old unwatched.old }
     ensures kept { Keeps alarms.old alarms.new × Keeps unwatched.old unwatched.new }
 {
@@ -94,9 +94,9 @@ pub(super) fn watch<B: Bettor, R: RestartRule>(
     requires whole { len ≡ length (log_of reader.old) }
     requires short { len ≤ 65536 }
     requires buffer { 63 ≤ length buffer.old }
-    requires rises { Rising (watch_of (view nulls strategy monitor.old) progress.old alarms.old unwatched.old) }
+    requires rises { Rising (watch_of (view B.nulls B.strategy monitor.old) progress.old alarms.old unwatched.old) }
     requires fewer { progress.old.counts ≤ (position reader.old).records }
-    ensures value { stopped (watch_of (view nulls strategy monitor.new) progress.new alarms.new unwatched.new) result ≡ watching (terms_of nulls base monitor.old) (places_in alarms.old unwatched.old) (stream_of (left_in reader.old)) (spot_of (position reader.old)) (watch_of (view nulls strategy monitor.old) progress.old alarms.old unwatched.old) }
+    ensures value { stopped (watch_of (view B.nulls B.strategy monitor.new) progress.new alarms.new unwatched.new) result ≡ watching (terms_of B.nulls R.base monitor.old) (places_in alarms.old unwatched.old) (stream_of (left_in reader.old)) (spot_of (position reader.old)) (watch_of (view B.nulls B.strategy monitor.old) progress.old alarms.old unwatched.old) }
     ensures places { places_in alarms.new unwatched.new ≡ places_in alarms.old unwatched.old }
     ensures kept { Keeps alarms.old alarms.new × Keeps unwatched.old unwatched.new }
 {

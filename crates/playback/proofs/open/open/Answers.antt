@@ -1,4 +1,4 @@
-use Rattle.std.proofs.Common.{◌≡◌, ◌+◌, refl, ap, ◌∙◌}
+use Rattle.std.proofs.Common.{◌+◌, refl, ap, ◌∙◌}
 use Rattle.edetector.specs.Weights.{null_weights}
 use Rattle.plantlog.specs.Position.{position, log_of, left_in}
 use Rattle.playback.specs.Held.{places_in}
@@ -12,9 +12,9 @@ returns-in-Ok c =
     let rd' = c.table.new.reader in
     let read = c.in-Ok.ensures in
     record {
-      value = c.with-table.ensures.value ∙ first_taken (left_in rd) (position rd) (left_in rd') (position rd') read.moved (left_after (log_of rd) (log_of rd') (position rd) (position rd') read.moved read.log) (places_in c.args.alarms.now c.args.unwatched.now) (null_weights c.in-Ok.null) read.value;
-      places = c.with-table.ensures.places;
-      kept = c.with-table.ensures.kept;
+      value = c.with_table.ensures.value ∙ first_taken (left_in rd) (position rd) (left_in rd') (position rd') read.moved (left_after (log_of rd) (log_of rd') (position rd) (position rd') read.moved read.log) (places_in c.args.alarms.now c.args.unwatched.now) (null_weights c.in-Ok.null) read.value;
+      places = c.with_table.ensures.places;
+      kept = c.with_table.ensures.kept;
     }
 
 pub returns-in-Err : goal.returns-in-Err

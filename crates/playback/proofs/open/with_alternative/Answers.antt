@@ -1,8 +1,7 @@
-use Rattle.std.proofs.Common.{◌≡◌, sym, refl, ap, ◌∙◌, ap₂, rules}
+use Rattle.std.proofs.Common.{sym, ap, ◌∙◌, ap₂}
 use Rattle.edetector.specs.declared.table.NullTable.{NullTable}
 use Rattle.edetector.specs.declared.table.AlternativeTable.{AlternativeTable}
-use Rattle.edetector.specs.Bettors.{fixed, adaptive, mixture}
-use Rattle.edetector.specs.Tallies.{tally_of}
+use Rattle.edetector.specs.Bettors.{fixed}
 use Rattle.edetector.specs.Weights.{null_weights, alternative_weights}
 use Rattle.plantlog.specs.declared.record.BettorChoice.{BettorChoice}
 use Rattle.plantlog.specs.Choices.{bettor_number}
@@ -28,17 +27,17 @@ returns-in-Fixed c =
       kept = c.run.ensures.kept;
     }
 
-pub returns-in-default : goal.returns-in-default
-returns-in-default c =
+pub returns-in_default : goal.returns-in_default
+returns-in_default c =
     let rd = c.args.reader.now in
     let rd' = c.alternative.new.reader in
     let read = c.in-Ok.ensures in
     let pair = c.in-Ok-new.ensures in
     let ws = null_weights c.args.null in
     let alts = alternative_weights c.in-Ok.alternative in
-    let plays = mixes c.args.setup.bettor ws alts _ c.in-default.not-Fixed (mixed_plays c.new-in-default-2.result c.in-Ok-new.fixed c.new-in-default.result c.args.null c.in-Ok.alternative c.new-in-default-2.ensures pair.1 pair.2 c.new-in-default.ensures.table c.new-in-default.ensures.fresh) in
+    let plays = mixes c.args.setup.bettor ws alts _ c.in_default.not-Fixed (mixed_plays c.new-in_default-2.result c.in-Ok-new.fixed c.new-in_default.result c.args.null c.in-Ok.alternative c.new-in_default-2.ensures pair.1 pair.2 c.new-in_default.ensures.table c.new-in_default.ensures.fresh) in
     record {
-      value = c.run-in-default.ensures.value ∙ third_taken (left_in rd) (position rd) (left_in rd') (position rd') read.moved (left_after (log_of rd) (log_of rd') (position rd) (position rd') read.moved read.log) (places_in c.args.alarms.now c.args.unwatched.now) ws (settings_of c.args.setup) alts _ read.value pair.0 plays;
-      places = c.run-in-default.ensures.places;
-      kept = c.run-in-default.ensures.kept;
+      value = c.run-in_default.ensures.value ∙ third_taken (left_in rd) (position rd) (left_in rd') (position rd') read.moved (left_after (log_of rd) (log_of rd') (position rd) (position rd') read.moved read.log) (places_in c.args.alarms.now c.args.unwatched.now) ws (settings_of c.args.setup) alts _ read.value pair.0 plays;
+      places = c.run-in_default.ensures.places;
+      kept = c.run-in_default.ensures.kept;
     }

@@ -1,4 +1,4 @@
-use Rattle.std.proofs.Common.{◌≡◌, ◌+◌, refl, ap, ◌∙◌}
+use Rattle.std.proofs.Common.{◌+◌, refl, ap, ◌∙◌}
 use Rattle.edetector.specs.Weights.{null_weights}
 use Rattle.plantlog.specs.Position.{position, log_of, left_in}
 use Rattle.playback.specs.Front.{settings_of}
@@ -13,9 +13,9 @@ returns-in-Ok c =
     let rd' = c.setup.new.reader in
     let read = c.in-Ok.ensures in
     record {
-      value = c.with-setup.ensures.value ∙ second_taken (left_in rd) (position rd) (left_in rd') (position rd') read.moved (left_after (log_of rd) (log_of rd') (position rd) (position rd') read.moved read.log) (places_in c.args.alarms.now c.args.unwatched.now) (null_weights c.args.null) (settings_of c.in-Ok.setup) read.value;
-      places = c.with-setup.ensures.places;
-      kept = c.with-setup.ensures.kept;
+      value = c.with_setup.ensures.value ∙ second_taken (left_in rd) (position rd) (left_in rd') (position rd') read.moved (left_after (log_of rd) (log_of rd') (position rd) (position rd') read.moved read.log) (places_in c.args.alarms.now c.args.unwatched.now) (null_weights c.args.null) (settings_of c.in-Ok.setup) read.value;
+      places = c.with_setup.ensures.places;
+      kept = c.with_setup.ensures.kept;
     }
 
 pub returns-in-Err : goal.returns-in-Err

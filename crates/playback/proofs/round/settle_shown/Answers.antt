@@ -1,7 +1,6 @@
-use Rattle.std.proofs.Common.{◌≡◌, ap, rules}
+use Rattle.std.proofs.Common.{ap, rules}
 use Rattle.edetector.specs.View.{view, terms_of}
 use Rattle.daybook.specs.Books.{entries_of}
-use Rattle.daybook.specs.Entries.{AlarmView}
 use Rattle.playback.proofs.Rounds.{stands_last, rang_entered}
 use Rattle.playback.proofs.round.settle_shown.Goals as goal
 

@@ -1,4 +1,4 @@
-use Rattle.std.proofs.Common.{◌≡◌, ◌+◌, Some, sym, refl, ap, ◌∙◌, ap₂, arith}
+use Rattle.std.proofs.Common.{◌+◌, Some, ◌∙◌, ap₂, arith}
 use Rattle.plantlog.specs.Position.{position, log_of}
 use Rattle.playback.specs.declared.stop.ReplayFault.TheVariants.{Trailing}
 use Rattle.playback.specs.Replaying.{stopped}
