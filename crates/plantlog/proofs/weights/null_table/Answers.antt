@@ -1,3 +1,4 @@
+use Rattle.std.proofs.Common.{rules}
 use Rattle.std.proofs.lemmas.Result.{err_from_is_err_and}
 use Rattle.plantlog.proofs.TableRead.{refused_table, refused_whole, refused_more, accepted}
 use Rattle.plantlog.proofs.weights.null_table.Goals as goal
@@ -17,8 +18,7 @@ pub returns-in_err-no_more : goal.returns-in_err-no_more
 returns-in_err-no_more c =
     let p = err_from_is_err_and c.from_residual-in_err-no_more.result c.from_residual-in_err-no_more.ensures.1 in
     let read = c.in_ok-classes.ensures.value in
-    let made = c.in_ok-table.ensures in
-    rw (p.1, p.2) (refused_more 1 c.args.bytes.now c.in_ok-classes.classes c.in_ok-classes.list _ read made.0 _ c.in_err-no_more.ensures)
+    rw (p.1, p.2) (refused_more 1 c.args.bytes.now c.in_ok-classes.classes c.in_ok-classes.list _ read (search rules) _ c.in_err-no_more.ensures)
 
 pub returns : goal.returns
 returns c =
