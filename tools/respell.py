@@ -2,7 +2,8 @@
 """Brings the repository's own definitions and lemmas to today's spelling, once, right after port.py.
 
 A function or lemma whose name has a hyphen is in snake case, a fact or type in upper camel case. Only names that a file of
-specs/ or a lemma file of proofs/ declares are turned; the names of goals and of their steps are Rattle's own and stay.
+specs/ or proofs/ declares are turned, and those under which a file imports one; the names of goals and of their steps are
+Rattle's own and stay.
 Run at the top: python3 tools/respell.py; with --list it only prints the names, old and new, and those that fall together.
 """
 import collections
@@ -10,7 +11,7 @@ import glob
 import re
 import sys
 
-# two names that would fall together with another
+# a name that would fall together with another
 OTHERWISE = {
     "Null-table": "IsNullTable",  # the struct is NullTable
 }
