@@ -7,33 +7,29 @@ use std::alloc::{AllocError, Global};
 fn digit(c: u8) -> Option<u8>
     ensures { result ≡ digit_value c }
 {
-    if 48 <= c && c <= 57 {
-        return Some(c - 48);
+    match c {
+        b'0'..=b'9' => Some(c - b'0'),
+        b'a'..=b'f' => Some(c - b'a' + 10),
+        _ => None,
     }
-    if 97 <= c && c <= 102 {
-        return Some(c - 87);
-    }
-    None
+}
+
+fn byte(digits: [u8; 2]) -> Option<u8> {
+    let [high, low] = digits;
+    Some(digit(high)? << 4 | digit(low)?)
 }
 
 // None where the text is not a whole number of bytes.
 pub(super) fn decode(heap: Global, text: &[u8]) -> Result<Option<Vec<u8>>, AllocError> {
+    let (pairs, []) = text.as_chunks::<2>() else {
+        return Ok(None);
+    };
     let mut bytes = Vec::new(heap);
-    let mut high = None;
-    for c in text {
-        let Some(value) = digit(*c) else {
+    for pair in pairs {
+        let Some(byte) = byte(*pair) else {
             return Ok(None);
         };
-        match high {
-            None => high = Some(value),
-            Some(first) => {
-                bytes.push(first << 4 | value)?;
-                high = None;
-            }
-        }
-    }
-    if high.is_some() {
-        return Ok(None);
+        bytes.push(byte)?;
     }
     Ok(Some(bytes))
 }

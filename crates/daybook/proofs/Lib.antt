@@ -1,2 +1,4 @@
+pub mod Digits
 pub mod Entering
+pub mod LastDay
 pub mod Listing

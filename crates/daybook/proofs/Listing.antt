@@ -1,23 +1,58 @@
--- The lines of entries: one entry more, and all of them.
-use Rattle.std.proofs.Common.{◌≡◌, ℕ, ◌+◌, ◌<◌, ◌≤◌, List, [], ◌∷◌, ◌++◌, map, length, get_or, take, sym, ap, ◌∙◌}
-use Rattle.std.proofs.lemmas.List.{take_more, take_all, map_more, flat_map_more}
-use Rattle.daybook.specs.Lines.{lines}
+-- Lines put one after the other.
+use Rattle.std.proofs.Common.{◌≡◌, ℕ, ◌+◌, ◌<◌, List, [], ◌∷◌, ◌++◌, map, length, get_or, take, Option, Some, None, IfSome, option_map, sym, refl, ap, ◌∙◌}
+use Rattle.std.specs.Fmt.{option_append}
+use Rattle.std.proofs.lemmas.List.{append_assoc, append-nil, take_more}
+use Rattle.daybook.specs.declared.entry.alarm.Alarm.{Alarm}
+use Rattle.daybook.specs.declared.entry.unwatched.Unwatched.{Unwatched}
+use Rattle.daybook.specs.Entries.{alarm_view}
+use Rattle.daybook.specs.Lines.{printed_lines, lines, alarm_line, alarm_lines, unwatched_line, unwatched_lines}
 
-module _ {X : Type 0} (text : X → List ℕ) (bs was : List ℕ) where
-  -- the line of x is put after those of xs
-  put_next : (next : List ℕ) (xs : List X) (x : X) → was ≡ bs ++ lines text xs → next ≡ was ++ (text x ++ (10 ∷ [])) → next ≡ bs ++ lines text (xs ++ x ∷ [])
-  put_next next xs x e n = n ∙ ap (λ l. l ++ (text x ++ (10 ∷ []))) e ∙ flat_map_more (λ y. text y ++ (10 ∷ [])) bs xs x
+-- what stands behind `old`, with the text of o put before that of p
+joined : (old w t : List ℕ) (p : Option (List ℕ)) → IfSome p (λ bs. w ≡ (old ++ t) ++ bs) → IfSome (option_append (Some t) p) (λ bs. w ≡ old ++ bs)
+joined old w t None h = h
+joined old w t (Some bs) h = h ∙ append_assoc old t bs
 
-  pub one_more : (next : List ℕ) (xs : List X) (i : ℕ) (d : X) → i < length xs → was ≡ bs ++ lines text (take i xs) → next ≡ was ++ (text (get_or xs i d) ++ (10 ∷ [])) → next ≡ bs ++ lines text (take (i + 1) xs)
-  one_more next xs i d h e n = put_next next (take i xs) (get_or xs i d) e n ∙ ap (λ l. bs ++ lines text l) (sym (take_more xs i d h))
+parted : (old w t : List ℕ) (p : Option (List ℕ)) → IfSome (option_append (Some t) p) (λ bs. w ≡ old ++ bs) → IfSome p (λ bs. w ≡ (old ++ t) ++ bs)
+parted old w t None h = h
+parted old w t (Some bs) h = h ∙ sym (append_assoc old t bs)
 
-  pub all_put : (xs : List X) (i : ℕ) → length xs ≤ i → was ≡ bs ++ lines text (take i xs) → was ≡ bs ++ lines text xs
-  all_put xs i h e = e ∙ ap (λ l. bs ++ lines text l) (take_all i xs h)
+module _ (was next : List ℕ) where
+  behind : (old : List ℕ) (o p q : Option (List ℕ)) → ((t : List ℕ) → IfSome p (λ bs. was ≡ (old ++ t) ++ bs) → IfSome q (λ bs. next ≡ (old ++ t) ++ bs)) → IfSome (option_append o p) (λ bs. was ≡ old ++ bs) → IfSome (option_append o q) (λ bs. next ≡ old ++ bs)
+  behind old None p q k h = h
+  behind old (Some t) p q k h = joined old next t q (k t (parted old was t p h))
 
-  module _ {Y : Type 0} (view : Y → X) where
-    pub one_more_viewed : (next : List ℕ) (ys : List Y) (i : ℕ) (y : Y) → y ≡ get_or ys i y → i < length ys → was ≡ bs ++ lines text (map view (take i ys)) → next ≡ was ++ (text (view y) ++ (10 ∷ [])) → next ≡ bs ++ lines text (map view (take (i + 1) ys))
-    one_more_viewed next ys i y is h e n =
-        put_next next (map view (take i ys)) (view y) e n ∙ ap (λ z. bs ++ lines text (map view (take i ys) ++ view z ∷ [])) is ∙ ap (λ l. bs ++ lines text l) (sym (map_more view ys i y h))
+  first_line : (old : List ℕ) (o : Option (List ℕ)) → was ≡ old ++ [] → IfSome o (λ bs. next ≡ was ++ (bs ++ (10 ∷ []))) → IfSome (option_append (option_map (λ bs. bs ++ (10 ∷ [])) o) (Some [])) (λ bs. next ≡ old ++ bs)
+  first_line old None w n = n
+  first_line old (Some bs) w n = n ∙ ap (λ l. l ++ (bs ++ (10 ∷ []))) w ∙ simp append-nil
 
-    pub all_viewed : (ys : List Y) (i : ℕ) → length ys ≤ i → was ≡ bs ++ lines text (map view (take i ys)) → was ≡ bs ++ lines text (map view ys)
-    all_viewed ys i h e = e ∙ ap (λ l. bs ++ lines text (map view l)) (take_all i ys h)
+  module _ {X : Type 0} (output : X → Option (List ℕ)) where
+    -- the line of x is put after those of xs
+    put_next : (old : List ℕ) (xs : List X) (x : X) → IfSome (printed_lines output xs) (λ bs. was ≡ old ++ bs) → IfSome (output x) (λ bs. next ≡ was ++ (bs ++ (10 ∷ []))) → IfSome (printed_lines output (xs ++ x ∷ [])) (λ bs. next ≡ old ++ bs)
+    put_next old [] x w n = first_line old (output x) w n
+    put_next old (y ∷ ys) x w n =
+        behind old (option_map (λ bs. bs ++ (10 ∷ [])) (output y)) (printed_lines output ys) (printed_lines output (ys ++ x ∷ [])) (λ t h. put_next (old ++ t) ys x h n) w
+
+    pub one_more : (old : List ℕ) (xs : List X) (i : ℕ) (x : X) → x ≡ get_or xs i x → i < length xs → IfSome (printed_lines output (take i xs)) (λ bs. was ≡ old ++ bs) → IfSome (output x) (λ bs. next ≡ was ++ (bs ++ (10 ∷ []))) → IfSome (printed_lines output (take (i + 1) xs)) (λ bs. next ≡ old ++ bs)
+    one_more old xs i x is h w n =
+        let more : take (i + 1) xs ≡ take i xs ++ x ∷ [] = take_more xs i x h ∙ ap (λ y. take i xs ++ y ∷ []) (sym is) in
+        rw more (put_next old (take i xs) x w n)
+
+-- where each is printed as its text, the lines are those of the texts
+printed_lines-some : {X : Type 0} (text : X → List ℕ) (xs : List X) → printed_lines (λ x. Some (text x)) xs ≡ Some (lines text xs)
+printed_lines-some text [] = refl
+printed_lines-some text (x ∷ xs) = ap (option_append (Some (text x ++ (10 ∷ [])))) (printed_lines-some text xs)
+
+lines-map : {X Y : Type 0} (text : X → List ℕ) (view : Y → X) (ys : List Y) → lines (λ y. text (view y)) ys ≡ lines text (map view ys)
+lines-map text view [] = refl
+lines-map text view (y ∷ ys) = ap (λ l. (text (view y) ++ (10 ∷ [])) ++ l) (lines-map text view ys)
+
+printed_alarms : (xs : List Alarm) → printed_lines (λ a. Some (alarm_line (alarm_view a))) xs ≡ Some (alarm_lines (map alarm_view xs))
+printed_alarms xs = printed_lines-some (λ a. alarm_line (alarm_view a)) xs ∙ ap Some (lines-map alarm_line alarm_view xs)
+
+-- what the lines of alarms, and those of unwatched days, put behind a text
+module _ (old new : List ℕ) where
+  pub alarms_put : (xs : List Alarm) → IfSome (printed_lines (λ a. Some (alarm_line (alarm_view a))) xs) (λ bs. new ≡ old ++ bs) → new ≡ old ++ alarm_lines (map alarm_view xs)
+  alarms_put xs h = rw (printed_alarms xs) at h
+
+  pub unwatched_put : (xs : List Unwatched) → IfSome (printed_lines (λ u. Some (unwatched_line u)) xs) (λ bs. new ≡ old ++ bs) → new ≡ old ++ unwatched_lines xs
+  unwatched_put xs h = rw (printed_lines-some unwatched_line xs) at h

@@ -1,12 +1,14 @@
 -- The bytes of each line of a listing, without its newline.
-use Rattle.std.specs.Prelude.{ℕ, ◌*◌, ◌/◌, ◌%◌, List, [], ◌∷◌, ◌++◌, codes, decimal}
+use Rattle.std.specs.Prelude.{ℕ, ◌*◌, ◌/◌, ◌%◌, List, [], ◌∷◌, ◌++◌, Option, Some, option_map, codes, decimal}
+use Rattle.std.specs.Fmt.{option_append}
 use Rattle.std.specs.List.{flat_map}
 use Rattle.edetector.specs.Rules.{bet}
+use Rattle.plantlog.specs.declared.fault.Layer.TheVariants.{Value, Number, Record}
+use Rattle.plantlog.specs.declared.record.RuleChoice.{RuleChoice}
+use Rattle.plantlog.specs.declared.record.RuleChoice.TheVariants.{ShiryaevRoberts, Page}
 use Rattle.daybook.specs.declared.entry.unwatched.Unwatched.{Unwatched}
 use Rattle.daybook.specs.declared.line.fault.Layer.{Layer}
-use Rattle.daybook.specs.declared.line.fault.Layer.TheVariants.{Value, Number, Record, Monitor, Book, Replay}
-use Rattle.daybook.specs.declared.line.setup.RuleLetter.{RuleLetter}
-use Rattle.daybook.specs.declared.line.setup.RuleLetter.TheVariants.{S, P}
+use Rattle.daybook.specs.declared.line.fault.Layer.TheVariants.{Log, Monitor, Book, Replay}
 use Rattle.daybook.specs.Entries.{AlarmView}
 
 -- the hundredths of a bet in so many parts
@@ -21,19 +23,19 @@ pointed h = decimal (h / 100) ++ (codes "." ++ (decimal (h / 10 % 10) ++ decimal
 abbrev pub wealth_text : ℕ → List ℕ
 wealth_text parts = pointed (hundredths_in parts)
 
-abbrev pub rule_text : RuleLetter → List ℕ
-rule_text S = codes "S"
-rule_text P = codes "P"
+abbrev pub rule_text : RuleChoice → List ℕ
+rule_text ShiryaevRoberts = codes "S"
+rule_text Page = codes "P"
 
 abbrev pub layer_text : Layer → List ℕ
-layer_text Value = codes "value"
-layer_text Number = codes "number"
-layer_text Record = codes "record"
+layer_text (Log Value) = codes "value"
+layer_text (Log Number) = codes "number"
+layer_text (Log Record) = codes "record"
 layer_text Monitor = codes "monitor"
 layer_text Book = codes "book"
 layer_text Replay = codes "replay"
 
-abbrev pub monitor_line : ℕ → ℕ → ℕ → RuleLetter → List ℕ
+abbrev pub monitor_line : ℕ → ℕ → ℕ → RuleChoice → List ℕ
 monitor_line classes total threshold rule =
     codes "monitor classes " ++ (decimal classes ++ (codes " total " ++ (decimal total ++ (codes " threshold " ++ (decimal threshold ++ (codes " rule " ++ rule_text rule))))))
 
@@ -51,6 +53,11 @@ end_line rounds alarms unwatched =
 abbrev pub fault_line : ℕ → ℕ → ℕ → Layer → List ℕ
 fault_line number at byte layer =
     codes "fault " ++ (decimal number ++ (codes " record " ++ (decimal at ++ (codes " byte " ++ (decimal byte ++ (codes " layer " ++ layer_text layer))))))
+
+-- the lines of values of a kind that prints each as output says, each ended by a newline, if it says so of all
+abbrev pub printed_lines : {X : Type 0} → (X → Option (List ℕ)) → List X → Option (List ℕ)
+printed_lines output [] = Some []
+printed_lines output (x ∷ xs) = option_append (option_map (λ bs. bs ++ (10 ∷ [])) (output x)) (printed_lines output xs)
 
 -- a line for each entry, each ended by a newline
 abbrev pub lines : {X : Type 0} → (X → List ℕ) → List X → List ℕ

@@ -2,21 +2,18 @@
 ghost use Rattle.std.specs.Prelude.{◌≡◌};
 ghost use Rattle.daybook.specs.Faults.{book_number};
 
-#[derive(Clone, Copy)]
+#[derive(Clone, Copy, Debug, PartialEq, Eq)]
 pub enum BookFault {
     // every place is used
-    Full,
+    Full = 37,
     // the day is not above the last entry's
-    DayNotAbove,
+    DayNotAbove = 38,
 }
 
-impl BookFault {
-    pub fn number(self) -> u8
-        ensures { result ≡ book_number self }
-    {
-        match self {
-            BookFault::Full => 37,
-            BookFault::DayNotAbove => 38,
-        }
+impl From<BookFault> for u8 {
+    ghost from_gives = { λ fault n. n ≡ book_number fault };
+
+    fn from(fault: BookFault) -> u8 {
+        fault as u8
     }
 }

@@ -12,7 +12,8 @@ use Rattle.edetector.specs.Rules.{bet}
 use Rattle.edetector.specs.Bettors.{Strategy}
 use Rattle.edetector.specs.Ledger.{Terms, Standing, Outcome, outcome, fresh, settled, rings, grown, while_staked}
 use Rattle.edetector.specs.Plans.{Plan, run, all_called, if_staked, next, heard, rounds_in, alarms_in, Bound}
-use Rattle.edetector.specs.Sums.{weigh_mono, weigh_same, weigh_within, weigh_add, weigh_scale, weigh_const, fair_step}
+use Rattle.edetector.specs.Sums.{weigh_mono, weigh_add, weigh_scale}
+use Rattle.edetector.proofs.Weighing.{weigh_same, weigh_within, weigh_const, fair_step}
 use Rattle.edetector.proofs.Sequences.{over_all, weighted_is, mass, mass_more, over_none, over_plus}
 use Rattle.edetector.proofs.Fairness.{potential, potential_at, row_fair, PlaysFair, Sound, all_kept}
 

@@ -3,7 +3,8 @@ use Rattle.std.proofs.Common.{◌≡◌, ℕ, zero, suc, ◌+◌, ◌*◌, List,
 use Rattle.std.specs.List.{flat_map}
 use Rattle.edetector.specs.Tables.{weigh, total}
 use Rattle.edetector.specs.Plans.{weighted, weight_of, sum_of, sequences, classes_from}
-use Rattle.edetector.specs.Sums.{weigh_same, weigh_add, weigh_scale, weigh_const}
+use Rattle.edetector.specs.Sums.{weigh_add, weigh_scale}
+use Rattle.edetector.proofs.Weighing.{weigh_same, weigh_const}
 
 -- the sum over all sequences of h classes of the sequence's weight × f, by recursion on h
 abbrev pub over_all : List ℕ → ℕ → (List ℕ → ℕ) → ℕ

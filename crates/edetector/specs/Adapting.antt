@@ -1,21 +1,16 @@
--- The adaptive bettor: its rows are whole and fair, and one class learned is one step of its strategy.
-use Rattle.std.specs.Prelude.{◌≡◌, ℕ, zero, suc, ◌+◌, ◌*◌, ◌/◌, ◌<◌, ◌≤◌, Bool, true, false, cond, List, [], ◌∷◌, length, nat_lt, slice_index, slice_set, refl}
+-- The rows of likelihood ratios are whole and fair, those of an adaptive bettor too.
+use Rattle.std.specs.Prelude.{◌≡◌, ℕ, zero, suc, ◌+◌, ◌*◌, ◌/◌, ◌<◌, ◌≤◌, cond, List, [], ◌∷◌, length, nat_lt, slice_index, slice_set, refl}
 use Rattle.std.proofs.Common.{sym, ap, ◌∙◌, mul-le-mul_left, mul-add, mul_assoc, mul_comm, mul_left_comm, mul-zero, add-zero, le_of_suc-le-suc, not-suc-le-zero, arith, length-set}
 use Rattle.std.proofs.Math.Nat.{mul-div-le, le_of_mul-le-mul_left}
 use Rattle.std.proofs.lemmas.Bool.Decides.{nat_tests}
+use Rattle.std.proofs.lemmas.Bool.{cond_both}
 use Rattle.edetector.specs.Tables.{weigh, total, Fair}
-use Rattle.edetector.specs.Bettors.{Strategy, learned, ratios, Tally, one_more, tally_class, tally_all, plus, adaptive}
+use Rattle.edetector.specs.Bettors.{ratios, Tally, one_more, tally_class, tally_all, plus, adaptive}
 
 pub ratios_long : (w v : ℕ) (ws alts : List ℕ) → length alts ≡ length ws → length (ratios w v ws alts) ≡ length ws
 ratios_long w v [] alts e = refl
 ratios_long w v (x ∷ ws) [] e = absurd (omega arith)
 ratios_long w v (x ∷ ws) (a ∷ alts) e = ap suc (ratios_long w v ws alts (omega arith))
-
-pub ratios_at : (w v : ℕ) (ws alts : List ℕ) → length alts ≡ length ws → (k : ℕ) → k < length ws → slice_index (ratios w v ws alts) k ≡ (4096 * slice_index alts k * w) / (v * slice_index ws k)
-ratios_at w v [] alts e k h = absurd (not-suc-le-zero h)
-ratios_at w v (x ∷ ws) [] e k h = absurd (omega arith)
-ratios_at w v (x ∷ ws) (a ∷ alts) e zero h = refl
-ratios_at w v (x ∷ ws) (a ∷ alts) e (suc k) h = ratios_at w v ws alts (omega arith) k (le_of_suc-le-suc h)
 
 ratios_sum : (w v : ℕ) (ws alts : List ℕ) → length alts ≡ length ws → (i : ℕ) (f : ℕ → ℕ) → ((j : ℕ) → f (i + j) ≡ slice_index (ratios w v ws alts) j) → v * weigh ws i f ≤ 4096 * (w * total alts)
 ratios_sum w v [] alts e i f at = omega (arith, mul-zero v)
@@ -45,12 +40,6 @@ plus_long [] cs e = refl
 plus_long (w ∷ ws) [] e = absurd (omega arith)
 plus_long (w ∷ ws) (c ∷ cs) e = ap suc (plus_long ws cs (omega arith))
 
-pub plus_at : (ws cs : List ℕ) → length cs ≡ length ws → (k : ℕ) → k < length ws → slice_index (plus ws cs) k ≡ slice_index ws k + slice_index cs k
-plus_at [] cs e k h = absurd (not-suc-le-zero h)
-plus_at (w ∷ ws) [] e k h = absurd (omega arith)
-plus_at (w ∷ ws) (c ∷ cs) e zero h = refl
-plus_at (w ∷ ws) (c ∷ cs) e (suc k) h = plus_at ws cs (omega arith) k (le_of_suc-le-suc h)
-
 plus_total : (ws cs : List ℕ) → length cs ≡ length ws → total (plus ws cs) ≡ total ws + total cs
 plus_total [] [] e = refl
 plus_total [] (c ∷ cs) e = absurd (omega arith)
@@ -66,16 +55,12 @@ total_set (c ∷ cs) (suc k) h = omega (arith, total_set cs k (le_of_suc-le-suc 
 abbrev pub Adds : List ℕ → Tally → Type 0
 Adds ws t = (length t.counts ≡ length ws) × (total t.counts ≡ t.seen)
 
-either_tally : (P : Tally → Type 0) (b : Bool) (x y : Tally) → (b ≡ true → P x) → P y → P (cond b x y)
-either_tally P true x y p q = p refl
-either_tally P false x y p q = q
-
 pub learn_adds : (ws : List ℕ) (t : Tally) (k : ℕ) → Adds ws t → Adds ws (tally_class ws t k)
 learn_adds ws t k ok =
-    either_tally (Adds ws) (nat_lt k (length ws)) (cond (nat_lt t.seen 1000000) (one_more t k) t) t
-    (λ below. either_tally (Adds ws) (nat_lt t.seen 1000000) (one_more t k) t
-    (λ room. let h : k < length t.counts = grind (arith, nat_tests) in (length-set t.counts k (slice_index t.counts k + 1) ∙ ok.0, total_set t.counts k h ∙ ap (λ n. n + 1) ok.1)) ok)
-    ok
+    cond_both (nat_lt k (length ws)) (cond (nat_lt t.seen 1000000) (one_more t k) t) t (Adds ws)
+    (λ below. cond_both (nat_lt t.seen 1000000) (one_more t k) t (Adds ws)
+    (λ room. let h : k < length t.counts = grind (arith, nat_tests) in (length-set t.counts k (slice_index t.counts k + 1) ∙ ok.0, total_set t.counts k h ∙ ap (λ n. n + 1) ok.1)) (λ full. ok))
+    (λ past. ok)
 
 tally_all_adds : (ws : List ℕ) (t : Tally) (later : List ℕ) → Adds ws t → Adds ws (tally_all ws t later)
 tally_all_adds ws t [] ok = ok
@@ -93,12 +78,3 @@ adaptive_fair ws t pos ok later =
     let good = tally_all_adds ws t later ok in
     let most = plus_total ws u.counts good.0 in
     ratios_fair (total ws + u.seen) ws (plus ws u.counts) (plus_long ws u.counts good.0) (omega arith) (omega (arith, most, good.1))
-
--- one class learned is one step of the strategy
-step_by : (ws : List ℕ) (b : Bool) (u t : Tally) →
-    ◌≡◌ {A = Strategy} (adaptive ws (cond b u t)) (cond b (λ later. adaptive ws (cond b u t) later) (adaptive ws t))
-step_by ws true u t = refl
-step_by ws false u t = refl
-
-pub adaptive_learns : (ws : List ℕ) (t : Tally) (k : ℕ) → ◌≡◌ {A = Strategy} (adaptive ws (tally_class ws t k)) (learned ws (adaptive ws t) k)
-adaptive_learns ws t k = step_by ws (nat_lt k (length ws)) (cond (nat_lt t.seen 1000000) (one_more t k) t) t

@@ -3,6 +3,7 @@ pub mod Examples
 pub mod Faults
 pub mod Ledger
 pub mod Pairs
+pub mod Phases
 pub mod Plans
 pub mod Rules
 pub mod States
@@ -14,8 +15,6 @@ pub mod Weights
 pub mod Mixing
 pub mod Sums
 pub mod Held
-pub mod Lists
-pub mod Limits
 pub mod Tallying
 pub mod Adapting
 pub mod Fixing

@@ -1,13 +1,12 @@
 -- What a fixed bettor is made of.
 use Rattle.std.specs.Prelude.{◌≡◌, length, Ok, Err, Result, ◌≢◌}
-use Rattle.edetector.specs.declared.table.NullTable.{NullTable}
-use Rattle.edetector.specs.declared.table.AlternativeTable.{AlternativeTable}
+use Rattle.edetector.specs.declared.table.Table.{Table}
 use Rattle.edetector.specs.declared.fixed.Fixed.{Fixed}
 use Rattle.edetector.specs.declared.value.ValueFault.{ValueFault}
 use Rattle.edetector.specs.declared.value.ValueFault.TheVariants.{Alternative}
 use Rattle.edetector.specs.Weights.{null_weights, alternative_weights}
 
 -- a fixed bettor holds the two tables handed over, or these have not as many classes
-abbrev pub Paired : NullTable → AlternativeTable → Result Fixed ValueFault → Type 0
+abbrev pub Paired : Table 1 → Table 0 → Result Fixed ValueFault → Type 0
 Paired null alternative (Ok b) = (length (alternative_weights alternative) ≡ length (null_weights null)) × (b.null ≡ null) × (b.alternative ≡ alternative)
 Paired null alternative (Err f) = (length (alternative_weights alternative) ≢ length (null_weights null)) × (f ≡ Alternative)

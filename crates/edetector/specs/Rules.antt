@@ -5,10 +5,14 @@ use Rattle.std.specs.Prelude.{ℕ, ◌+◌, max, cond, nat_lt}
 abbrev pub bet : ℕ
 bet = 1048576
 
--- the Shiryaev–Roberts rule adds a bet; above 2^32 it adds none
+-- above 2^32 no bet is begun
+abbrev pub capped : ℕ → ℕ → ℕ
+capped m begun = cond (nat_lt 4294967296 m) m begun
+
+-- the Shiryaev–Roberts rule adds a bet
 abbrev pub shiryaev_roberts : ℕ → ℕ
-shiryaev_roberts m = cond (nat_lt 4294967296 m) m (m + bet)
+shiryaev_roberts m = capped m (m + bet)
 
 -- Page's rule starts from at least a bet
 abbrev pub page : ℕ → ℕ
-page m = cond (nat_lt 4294967296 m) m (max m bet)
+page m = capped m (max m bet)

@@ -4,4 +4,4 @@ use Rattle.edetector.specs.declared.adaptive.Adaptive.{Adaptive}
 use Rattle.edetector.specs.Bettors.{Tally}
 
 abbrev pub tally_of : Adaptive → Tally
-tally_of b = record { counts = take b.null.table.classes b.counts; seen = b.seen }
+tally_of b = record { counts = take b.null.classes b.counts; seen = b.seen }

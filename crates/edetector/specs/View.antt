@@ -1,13 +1,11 @@
 -- A monitor read as plain data, by what its bettor and its rule mean.
-use Rattle.std.specs.Prelude.{◌≡◌, ℕ, true, false, List, [], length, take, Ok, Err, Result}
+use Rattle.std.specs.Prelude.{◌≡◌, ℕ, true, false, List, Ok, Err, Result}
 use Rattle.edetector.specs.declared.state.State.{State}
-use Rattle.edetector.specs.declared.state.State.TheVariants.{Armed, Staked, Rung}
-use Rattle.edetector.specs.declared.units.Factor.{Factor}
 use Rattle.edetector.specs.declared.monitor.Monitor.{Monitor}
 use Rattle.edetector.specs.declared.monitor.Reading.{Reading}
 use Rattle.edetector.specs.declared.fault.Unmade.{Unmade}
 use Rattle.edetector.specs.declared.value.ValueFault.TheVariants.{Threshold}
-use Rattle.edetector.specs.Units.{factors_in}
+use Rattle.edetector.specs.Phases.{state_of, row_in}
 use Rattle.edetector.specs.Tables.{from_to}
 use Rattle.edetector.specs.Bettors.{Strategy}
 use Rattle.edetector.specs.Ledger.{Terms, Standing, Told, fresh}
@@ -18,18 +16,12 @@ terms ws base threshold tag = record { nulls = ws; base = base; threshold = thre
 abbrev pub standing : State → ℕ → ℕ → ℕ → List ℕ → Strategy → Standing
 standing state ledger rounds alarms row play = record { state = state; ledger = ledger; rounds = rounds; alarms = alarms; row = row; play = play }
 
--- the staked row; there is none unless the monitor is staked
-abbrev pub row_in : State → List ℕ → List Factor → List ℕ
-row_in Armed ws row = []
-row_in Staked ws row = take (length ws) (factors_in row)
-row_in Rung ws row = []
-
 abbrev pub terms_of : {B R : Type 0} → (B → List ℕ) → (R → ℕ → ℕ) → Monitor B R → Terms
 terms_of nulls base m = terms (nulls m.bettor) (base m.rule) m.threshold m.tag
 
 abbrev pub view : {B R : Type 0} → (B → List ℕ) → (B → Strategy) → Monitor B R → Standing
 view nulls strategy m =
-    standing m.state m.ledger.parts m.rounds m.alarms (row_in m.state (nulls m.bettor) m.row) (strategy m.bettor)
+    standing (state_of m.phase) m.ledger.parts m.rounds m.alarms (row_in m.phase (nulls m.bettor)) (strategy m.bettor)
 
 abbrev pub told_by : Reading → Told
 told_by r = record { state = r.state; ledger = r.ledger.parts; rounds = r.rounds; alarms = r.alarms }

@@ -6,12 +6,13 @@ use super::table::NullTable;
 
 pub mod plays;
 
+// How often each class was learned stands beside the table and not in it, since the table stays as it was made.
 #[derive(Drop)]
 pub struct Adaptive {
     pub(super) null: NullTable,
     pub(super) counts: [u32; 16],
     pub(super) seen: u32,
     ghost room: { length counts ≡ 16 },
-    ghost tallies: { total (take null.table.classes counts) ≡ seen },
+    ghost tallies: { total (take null.classes counts) ≡ seen },
     ghost capped: { seen ≤ 1000000 },
 }

@@ -1,10 +1,11 @@
 // A bettor: a null table, and a strategy that names a row of factors for every list of classes learned from now on.
 ghost use Rattle.std.specs.Prelude.{◌≡◌, ℕ, ◌≤◌, List, [], length, slice_index};
-ghost use Rattle.edetector.specs.Units.{factors_in};
+ghost use Rattle.edetector.specs.Units.{IsRow};
 ghost use Rattle.edetector.specs.Tables.{IsNullTable, Fair};
 ghost use Rattle.edetector.specs.Bettors.{learned};
 
 use super::units::{Factor, Row, Weight};
+use std::array;
 
 pub trait Bettor {
     ghost nulls: { Self → List ℕ };
@@ -30,13 +31,9 @@ pub trait Bettor {
 
     // The row now, with zeros behind it.
     fn row(&self) -> Row
-        ensures { (k : ℕ) → slice_index (factors_in result) k ≡ slice_index (strategy self.now []) k }
+        ensures { IsRow result (strategy self.now []) }
     {
-        let mut row = [Factor(0); 16];
-        for k in 0..16 {
-            row[k] = self.factor(k);
-        }
-        row
+        array::from_fn(|k| self.factor(k))
     }
 
     ghost table: { (b : Self) → IsNullTable (nulls b) };

@@ -4,25 +4,21 @@ ghost use Rattle.edetector.specs.Faults.{monitor_number};
 
 use super::value::ValueFault;
 
-#[derive(Clone, Copy)]
+#[derive(Clone, Copy, Debug, PartialEq, Eq)]
 pub enum MonitorFault {
-    // a stake while staked or rung, or a rearm while staked
-    NotArmed,
     // a stake after 1,000,000 rounds
-    Spent,
+    Spent = 31,
+    // a stake while staked or rung, or a rearm while staked
+    NotArmed = 32,
     // the slip does not fit
-    Misfit,
+    Misfit = 34,
 }
 
-impl MonitorFault {
-    pub fn number(self) -> u8
-        ensures { result ≡ monitor_number self }
-    {
-        match self {
-            MonitorFault::NotArmed => 32,
-            MonitorFault::Spent => 31,
-            MonitorFault::Misfit => 34,
-        }
+impl From<MonitorFault> for u8 {
+    ghost from_gives = { λ fault n. n ≡ monitor_number fault };
+
+    fn from(fault: MonitorFault) -> u8 {
+        fault as u8
     }
 }
 

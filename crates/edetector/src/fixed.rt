@@ -1,6 +1,6 @@
 // The fixed bettor: it plays the likelihood ratios of one alternative, whatever it learns.
 ghost use Rattle.std.specs.Prelude.{◌≡◌, ℕ, [], slice_index};
-ghost use Rattle.edetector.specs.Units.{factors_in};
+ghost use Rattle.edetector.specs.Units.{IsRow};
 ghost use Rattle.edetector.specs.Bettors.{fixed as plays};
 ghost use Rattle.edetector.specs.Weights.{null_weights, alternative_weights};
 
@@ -15,6 +15,6 @@ pub struct Fixed {
     pub(super) null: NullTable,
     pub(super) alternative: AlternativeTable,
     pub(super) row: Row,
-    ghost level: { alternative.table.classes ≡ null.table.classes },
-    ghost played: { (k : ℕ) → slice_index (factors_in row) k ≡ slice_index (plays (null_weights null) (alternative_weights alternative) []) k },
+    ghost level: { alternative.classes ≡ null.classes },
+    ghost played: { IsRow row (plays (null_weights null) (alternative_weights alternative) []) },
 }

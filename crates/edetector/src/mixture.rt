@@ -8,6 +8,7 @@ ghost use Rattle.edetector.specs.Mixing.{mixed_long, mixed_fair};
 use super::bettor::Bettor;
 use super::units::{Factor, Row, Weight};
 use super::value::ValueFault;
+use std::array;
 
 #[derive(Drop)]
 pub struct Mixture<F, S> {
@@ -23,25 +24,20 @@ fn same_tables<F: Bettor, S: Bettor>(first: &F, second: &S) -> bool
     if n != second.classes() {
         return false;
     }
-    for k in 0..n {
-        if first.weight(k).0 != second.weight(k).0 {
-            return false;
-        }
-    }
-    true
+    (0..n).all(|k| first.weight(k) == second.weight(k))
+}
+
+fn average(f: Factor, g: Factor) -> Factor
+    ensures { result.0 ≡ (f.0 + g.0) / 2 }
+{
+    Factor(f.0.midpoint(g.0))
 }
 
 // Half the sum of two rows.
 fn averaged(f: Row, g: Row) -> Row
-    requires f_small { (k : ℕ) → slice_index (factors_in f) k ≤ 268435456 }
-    requires g_small { (k : ℕ) → slice_index (factors_in g) k ≤ 268435456 }
     ensures { (k : ℕ) → slice_index (factors_in result) k ≡ (slice_index (factors_in f) k + slice_index (factors_in g) k) / 2 }
 {
-    let mut row = [Factor(0); 16];
-    for k in 0..16 {
-        row[k] = Factor((f[k].0 + g[k].0) / 2);
-    }
-    row
+    array::from_fn(|k| average(f[k], g[k]))
 }
 
 impl<F: Bettor, S: Bettor> Mixture<F, S> {
@@ -89,8 +85,7 @@ impl<F: Bettor, S: Bettor> Bettor for Mixture<F, S> {
         if !same_tables(&self.first, &self.second) {
             return f;
         }
-        let g = self.second.factor(class);
-        Factor((f.0 + g.0) / 2)
+        average(f, self.second.factor(class))
     }
 
     // Both learn every class of the mixture's own table.

@@ -1,14 +1,15 @@
 // What a monitor holds.
-ghost use Rattle.std.specs.Prelude.{◌≡◌, ℕ, ◌*◌, ◌≤◌, true, slice_index};
-ghost use Rattle.edetector.specs.Units.{factors_in};
+ghost use Rattle.std.specs.Prelude.{◌≡◌, ◌*◌, ◌≤◌, true};
 ghost use Rattle.edetector.specs.Rules.{bet};
 ghost use Rattle.edetector.specs.States.{level, lasts};
+ghost use Rattle.edetector.specs.Phases.{state_of};
 
 use super::state::State;
-use super::units::Row;
 use super::wealth::Wealth;
+use phase::Phase;
 
 pub mod calls;
+mod phase;
 
 #[derive(Drop)]
 pub struct Monitor<B, R> {
@@ -16,21 +17,19 @@ pub struct Monitor<B, R> {
     rule: R,
     threshold: u32,
     tag: u32,
-    state: State,
+    phase: Phase,
     ledger: Wealth,
     rounds: u32,
     alarms: u32,
-    row: Row,
     ghost least: { 1 ≤ threshold },
     ghost most: { threshold ≤ 4096 },
-    ghost stands: { level state (threshold * bet) ledger.parts ≡ true },
+    ghost stands: { level (state_of phase) (threshold * bet) ledger.parts ≡ true },
     ghost fewer: { alarms ≤ rounds },
-    ghost lasting: { lasts state rounds ≡ true },
-    ghost small: { (k : ℕ) → slice_index (factors_in row) k ≤ 268435456 },
+    ghost lasting: { lasts (state_of phase) rounds ≡ true },
 }
 
 // What a monitor tells of itself.
-#[derive(Clone, Copy)]
+#[derive(Clone, Copy, Debug, PartialEq, Eq)]
 pub struct Reading {
     pub state: State,
     pub ledger: Wealth,

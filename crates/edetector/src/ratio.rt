@@ -12,7 +12,7 @@ pub(super) fn likelihood_ratio(whole: u32, v: u32, w: Weight, a: Weight) -> Fact
     requires some { (1 ≤ v) × (1 ≤ w.0) }
     ensures { result.0 ≡ ratio whole v w.0 a.0 }
 {
-    let above = 4096 * (a.0 as u64) * (whole as u64);
-    let below = (v as u64) * (w.0 as u64);
+    let above = 4096 * u64::from(a.0) * u64::from(whole);
+    let below = u64::from(v) * u64::from(w.0);
     Factor((above / below) as u32)
 }

@@ -1,13 +1,27 @@
 // The two named restart rules.
-ghost use Rattle.edetector.specs.Rules.{shiryaev_roberts, page};
+ghost use Rattle.std.specs.Prelude.{◌≡◌};
+ghost use Rattle.edetector.specs.Rules.{capped, shiryaev_roberts, page};
 ghost use Rattle.std.proofs.Common.{rules};
 
 use super::rule::RestartRule;
 use super::units::Base;
-use super::wealth::Wealth;
+use super::wealth::{BET, Wealth};
+
+// Above so many parts no bet is begun.
+const CAP: u64 = 4294967296;
+
+fn capped(wealth: Wealth, begun: u64) -> Base
+    ensures { result.0 ≡ capped wealth.parts begun }
+{
+    if wealth.parts > CAP {
+        Base(wealth.parts)
+    } else {
+        Base(begun)
+    }
+}
 
 // Begins a bet each round, beside those that go on.
-#[derive(Clone, Copy)]
+#[derive(Clone, Copy, Debug, PartialEq, Eq)]
 pub struct ShiryaevRoberts;
 
 impl RestartRule for ShiryaevRoberts {
@@ -16,17 +30,12 @@ impl RestartRule for ShiryaevRoberts {
     ghost modest = { Prim.search rules };
 
     fn restart(&self, wealth: Wealth) -> Base {
-        let m = wealth.parts;
-        if m > 4294967296 {
-            Base(m)
-        } else {
-            Base(m + 1048576)
-        }
+        capped(wealth, wealth.parts + BET)
     }
 }
 
 // Begins a bet anew where what is left is less than a bet.
-#[derive(Clone, Copy)]
+#[derive(Clone, Copy, Debug, PartialEq, Eq)]
 pub struct Page;
 
 impl RestartRule for Page {
@@ -35,11 +44,6 @@ impl RestartRule for Page {
     ghost modest = { Prim.search rules };
 
     fn restart(&self, wealth: Wealth) -> Base {
-        let m = wealth.parts;
-        if m > 4294967296 {
-            Base(m)
-        } else {
-            Base(m.max(1048576))
-        }
+        capped(wealth, wealth.parts.max(BET))
     }
 }

@@ -1,5 +1,5 @@
 // Slips: one is given for every stake, and must be settled or withdrawn. Neither kind can be let go, copied, or made
-// outside this library.
+// outside this library, and a shown one does not tell its count: so they derive nothing.
 ghost use Rattle.std.specs.Prelude.{◌≡◌};
 
 // A stake whose count is not known yet.

@@ -1,5 +1,5 @@
 // What a monitor is doing.
-#[derive(Clone, Copy)]
+#[derive(Clone, Copy, Debug, PartialEq, Eq)]
 pub enum State {
     // ready for a stake
     Armed,

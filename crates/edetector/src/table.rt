@@ -8,9 +8,11 @@ use super::units::Weight;
 pub mod make;
 pub mod reads;
 
-// The weights of 2 to 16 classes, with their total.
-#[derive(Clone, Copy)]
-pub(super) struct Table {
+// The weights of 2 to 16 classes, none below `LEAST`, with their total.
+//
+// A fixed array with its length beside it, since a table is copied as a plain value and nothing here takes memory.
+#[derive(Clone, Copy, Debug, PartialEq, Eq)]
+pub struct Table<const LEAST: u32> {
     pub(super) classes: usize,
     pub(super) weights: [Weight; 16],
     pub(super) whole: u32,
@@ -20,17 +22,11 @@ pub(super) struct Table {
     ghost sums: { total (take classes (weights_in weights)) ≡ whole },
     ghost heavy: { 1 ≤ whole },
     ghost light: { whole ≤ 65536 },
+    ghost each: { (k : ℕ) → k < classes → LEAST ≤ slice_index (weights_in weights) k },
 }
 
 // How often each class comes on a sound line. No weight is 0.
-#[derive(Clone, Copy)]
-pub struct NullTable {
-    pub(super) table: Table,
-    ghost each: { (k : ℕ) → k < table.classes → 1 ≤ slice_index (weights_in table.weights) k },
-}
+pub type NullTable = Table<1>;
 
 // How often each class would come on a worn line.
-#[derive(Clone, Copy)]
-pub struct AlternativeTable {
-    pub(super) table: Table,
-}
+pub type AlternativeTable = Table<0>;

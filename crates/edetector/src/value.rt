@@ -2,33 +2,27 @@
 ghost use Rattle.std.specs.Prelude.{◌≡◌};
 ghost use Rattle.edetector.specs.Faults.{value_number};
 
-#[derive(Clone, Copy)]
+// Each by its number.
+#[derive(Clone, Copy, Debug, PartialEq, Eq)]
 pub enum ValueFault {
     // the number of classes is not 2 to 16
-    Classes,
+    Classes = 1,
     // a weight is beyond its limits
-    Weight,
+    Weight = 2,
     // the total of the weights is beyond its limits
-    Total,
+    Total = 3,
     // the threshold is not 1 to 4,096
-    Threshold,
+    Threshold = 4,
     // the null tables of a mixture differ
-    NullTables,
+    NullTables = 6,
     // the alternative has not as many classes as the null table
-    Alternative,
+    Alternative = 8,
 }
 
-impl ValueFault {
-    pub fn number(self) -> u8
-        ensures { result ≡ value_number self }
-    {
-        match self {
-            ValueFault::Classes => 1,
-            ValueFault::Weight => 2,
-            ValueFault::Total => 3,
-            ValueFault::Threshold => 4,
-            ValueFault::NullTables => 6,
-            ValueFault::Alternative => 8,
-        }
+impl From<ValueFault> for u8 {
+    ghost from_gives = { λ fault n. n ≡ value_number fault };
+
+    fn from(fault: ValueFault) -> u8 {
+        fault as u8
     }
 }

@@ -1,5 +1,5 @@
 // Rows of the three bettors, and bases of the two rules.
-use crate::example_bettor;
+use crate::{example_bettor, refusal};
 use edetector::adaptive::Adaptive;
 use edetector::bettor::Bettor;
 use edetector::fixed::Fixed;
@@ -8,26 +8,17 @@ use edetector::rule::RestartRule;
 use edetector::rules::{Page, ShiryaevRoberts};
 use edetector::table::{AlternativeTable, NullTable};
 use edetector::units::Weight;
+use edetector::value::ValueFault;
 use edetector::wealth::Wealth;
 use std::test::Fail;
 
-fn null(first: u32, second: u32) -> Result<NullTable, Fail> {
-    match NullTable::new(&[Weight(first), Weight(second)]) {
-        Ok(table) => Ok(table),
-        Err(_) => Err(Fail::new("no null table")),
-    }
-}
-
-fn bettor() -> Result<Fixed, Fail> {
-    match example_bettor() {
-        Ok(b) => Ok(b),
-        Err(_) => Err(Fail::new("no bettor")),
-    }
+fn null(first: u32, second: u32) -> Result<NullTable, ValueFault> {
+    NullTable::new(&[Weight(first), Weight(second)])
 }
 
 #[test]
 fn rows_are_the_likelihood_ratios(rt: HostRuntime) -> Result<(), Fail> {
-    let fixed = bettor()?;
+    let fixed = example_bettor()?;
     assert_eq!(rt; fixed.factor(0).0, 2730);
     assert_eq!(rt; fixed.factor(1).0, 8192);
     assert_eq!(rt; fixed.factor(2).0, 0);
@@ -43,7 +34,7 @@ fn rows_are_the_likelihood_ratios(rt: HostRuntime) -> Result<(), Fail> {
 
 #[test]
 fn a_mixture_averages_where_the_tables_agree(rt: HostRuntime) -> Result<(), Fail> {
-    let both = Mixture::new(bettor()?, Adaptive::new(null(3, 1)?));
+    let both = Mixture::new(example_bettor()?, Adaptive::new(null(3, 1)?));
     assert!(rt; both.check().is_ok());
     assert_eq!(rt; both.factor(0).0, 3413);
     assert_eq!(rt; both.factor(1).0, 6144);
@@ -60,29 +51,16 @@ fn a_mixture_averages_where_the_tables_agree(rt: HostRuntime) -> Result<(), Fail
 
 #[test]
 fn an_alternative_has_as_many_classes(rt: HostRuntime) -> Result<(), Fail> {
-    let Ok(three) = AlternativeTable::new(&[Weight(1), Weight(0), Weight(1)]) else {
-        return Err(Fail::new("no alternative"));
-    };
-    match Fixed::new(null(3, 1)?, three) {
-        Ok(_) => Err(Fail::new("three classes taken for two")),
-        Err(fault) => {
-            assert_eq!(rt; fault.number(), 8);
-            Ok(())
-        },
-    }
+    let three = AlternativeTable::new(&[Weight(1), Weight(0), Weight(1)])?;
+    assert_eq!(rt; refusal(Fixed::new(null(3, 1)?, three)), Some(8));
+    Ok(())
 }
 
 #[test]
 fn bases_stop_growing_above_two_to_the_32(rt: HostRuntime) -> Result<(), Fail> {
-    let Some(low) = Wealth::new(4294967296) else {
-        return Err(Fail::new("no wealth"));
-    };
-    let Some(high) = Wealth::new(4294967297) else {
-        return Err(Fail::new("no wealth"));
-    };
-    let Some(small) = Wealth::new(5) else {
-        return Err(Fail::new("no wealth"));
-    };
+    let low = Wealth::new(4294967296).ok_or("no wealth")?;
+    let high = Wealth::new(4294967297).ok_or("no wealth")?;
+    let small = Wealth::new(5).ok_or("no wealth")?;
     assert_eq!(rt; ShiryaevRoberts.restart(low).0, 4296015872);
     assert_eq!(rt; ShiryaevRoberts.restart(high).0, 4294967297);
     assert_eq!(rt; Page.restart(small).0, 1048576);

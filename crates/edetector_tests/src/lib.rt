@@ -13,6 +13,12 @@ pub fn example_bettor() -> Result<Fixed, ValueFault> {
     Fixed::new(null, alternative)
 }
 
+// The number of the refusal, if it is one.
+#[cfg(test)]
+fn refusal<T: Drop, E: Into<u8>>(answer: Result<T, E>) -> Option<u8> {
+    answer.err().map(|fault| fault.into())
+}
+
 #[cfg(test)]
 mod bettors;
 #[cfg(test)]

@@ -1,10 +1,11 @@
 -- The body in front of some bytes.
 use Rattle.std.proofs.Common.{◌≡◌, ℕ, ◌+◌, ◌-◌, ◌<◌, ◌≤◌, ◌⊎◌, List, [], ◌∷◌, length, get_or, take, drop, Ok, Err, refl, ap, ◌∙◌, add-one, arith}
+use Rattle.std.specs.List.{slice_range}
 use Rattle.std.proofs.lemmas.List.{take_rest, length-take-le}
+use Rattle.std.proofs.lemmas.Slice.{between_from_start}
 use Rattle.std.proofs.lemmas.Bool.{le-leb, lt-leb}
 use Rattle.plantlog.specs.declared.fault.RecordFault.TheVariants.{NoneLeft, LengthByte, Truncated}
 use Rattle.plantlog.specs.FirstRecord.{front}
-use Rattle.plantlog.specs.Calls.{span}
 use Rattle.plantlog.proofs.Limits.{inside, outside}
 
 -- the bytes behind the length byte, as a pattern gives them
@@ -30,28 +31,14 @@ cut_short (l ∷ xs) some low high cut =
     let b = lt-leb l (length xs) (omega (arith, t)) in
     rw (a, b) refl
 
--- a whole body, and what it says of the bytes
-pub record Whole (xs body : List ℕ) : Type 0 where
-  pub is : Ok (body, drop (length body + 1) xs) ≡ front xs
-  pub spans : length body + 1 ≡ span xs
-  pub fits : length body + 1 ≤ length xs
-  pub few : length body ≤ 63
-
-pub whole : (xs : List ℕ) → 0 < length xs → 1 ≤ get_or xs 0 0 → get_or xs 0 0 ≤ 63 → get_or xs 0 0 ≤ length (behind xs) → Whole xs (take (get_or xs 0 0 - 0) (drop 0 (behind xs)))
+pub whole : (xs body : List ℕ) → 0 < length xs → 1 ≤ get_or xs 0 0 → get_or xs 0 0 ≤ 63 → get_or xs 0 0 ≤ length (behind xs) → body ≡ slice_range (behind xs) 0 (get_or xs 0 0) → Ok (body, drop (length body + 1) xs) ≡ front xs
 unfolding front
-whole [] some low high fits = absurd (omega arith)
-whole (l ∷ xs) some low high fits =
+whole [] body some low high fits is = absurd (omega arith)
+whole (l ∷ xs) body some low high fits is =
     let t : behind (l ∷ xs) ≡ xs = take_rest (l ∷ xs) 1 in
-    let z : l - 0 ≡ l = omega arith in
     let h : l ≤ length xs = omega (arith, ap length t) in
     let a = inside 1 63 l low high in
     let b = le-leb l (length xs) h in
-    let body : take (l - 0) (drop 0 (behind (l ∷ xs))) ≡ take l xs = ap (λ j. take j (behind (l ∷ xs))) z ∙ ap (take l) t in
-    let long : length (take l xs) ≡ l = length-take-le l xs h in
-    let rest : drop (length (take l xs) + 1) (l ∷ xs) ≡ drop l xs = ap (λ j. drop (j + 1) (l ∷ xs)) long ∙ ap (λ j. drop j (l ∷ xs)) (add-one l) in
-    rw body (record {
-      is = rw (a, b) (ap (λ r. Ok (take l xs, r)) rest);
-      spans = omega (arith, long);
-      fits = omega (arith, long);
-      few = omega (arith, long);
-    })
+    let front : body ≡ take l xs = is ∙ between_from_start (behind (l ∷ xs)) l ∙ ap (take l) t in
+    let rest : drop (length body + 1) (l ∷ xs) ≡ drop l xs = ap (λ j. drop j (l ∷ xs)) (ap (λ b. length b + 1) front ∙ ap (λ j. j + 1) (length-take-le l xs h) ∙ add-one l) in
+    rw (a, b) (λ j. Ok (front j, rest j))

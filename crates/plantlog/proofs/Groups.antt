@@ -1,5 +1,6 @@
 -- How many groups a number takes.
-use Rattle.std.proofs.Common.{◌≡◌, ℕ, zero, suc, ◌+◌, ◌-◌, ◌*◌, ◌/◌, ◌^◌, ◌<◌, ◌≤◌, length, refl, ap, ◌∙◌, ⊎_elim, arith, pow_mono, pow-add}
+use Rattle.std.proofs.Common.{◌≡◌, ℕ, zero, suc, ◌+◌, ◌-◌, ◌*◌, ◌/◌, ◌^◌, ◌<◌, ◌≤◌, max, length, ap, ◌∙◌, ⊎_elim, arith, pow_mono, pow-add}
+use Rattle.std.specs.Int.{div_ceil}
 use lib.Count.{count_leading_zeros, leading_top, leading_of_zero}
 use Rattle.std.proofs.lemmas.Bool.{lt-ltb, le-ltb, cases_lt}
 use Rattle.plantlog.specs.Numbers.{groups, number_bytes}
@@ -35,26 +36,15 @@ from_top (suc m) n j h lo hi =
     rw a (omega (arith, ih)))
     (cases_lt j 7)
 
-pub bits_some : (n : ℕ) → (32 - count_leading_zeros 32 n ≡ 0 → ⊥) → 0 < n
-bits_some zero h = absurd (h (ap (λ (z : ℕ). 32 - z) (leading_of_zero 32)))
-bits_some (suc n) h = omega arith
-
-pub bits_none : (n : ℕ) → n < 2 ^ 32 → 32 - count_leading_zeros 32 n ≡ 0 → n ≡ 0
-bits_none zero h e = refl
-bits_none (suc n) h e = let t = leading_top 32 (suc n) (omega arith) h in absurd (omega (arith, t.1))
-
 -- leading zeros give the groups
-pub groups_from_zeros : (n : ℕ) → 0 < n → n < 2 ^ 32 → (32 - count_leading_zeros 32 n - 1) / 7 + 1 ≡ length (number_bytes n)
+pub groups_from_zeros : (n : ℕ) → n < 2 ^ 32 → max (div_ceil (32 - count_leading_zeros 32 n) 7) 1 ≡ length (number_bytes n)
 unfolding number_bytes
-groups_from_zeros n z h =
-    let t = leading_top 32 n z h in
-    let e : 32 - count_leading_zeros 32 n - 1 ≡ t.0 = omega (arith, t.1) in
-    ap (λ (k : ℕ). k / 7 + 1) e ∙ from_top 4 n t.0 (omega (arith, t.1)) t.2 t.3
-
-pub zero_alone : (n : ℕ) → n ≡ 0 → 1 ≡ length (number_bytes n)
-unfolding number_bytes
-zero_alone zero e = refl
-zero_alone (suc n) e = absurd (omega (arith, e))
+groups_from_zeros zero h = ap (λ (z : ℕ). max (div_ceil (32 - z) 7) 1) (leading_of_zero 32)
+groups_from_zeros (suc n) h =
+    let t = leading_top 32 (suc n) (omega arith) h in
+    let bits : 32 - count_leading_zeros 32 (suc n) ≡ t.0 + 1 = omega (arith, t.1) in
+    let up : max (div_ceil (t.0 + 1) 7) 1 ≡ t.0 / 7 + 1 = omega arith in
+    ap (λ (k : ℕ). max (div_ceil k 7) 1) bits ∙ up ∙ from_top 4 (suc n) t.0 (omega (arith, t.1)) t.2 t.3
 
 pub bytes_some : (n : ℕ) → 1 ≤ length (number_bytes n)
 unfolding number_bytes

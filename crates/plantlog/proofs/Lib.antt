@@ -11,8 +11,6 @@ pub mod ByKind
 pub mod Limits
 pub mod Front
 pub mod Judged
-pub mod Called
-pub mod Asked
 pub mod NumbersBytes
 pub mod PutNumbers
 pub mod TableNumbers

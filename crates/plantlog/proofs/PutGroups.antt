@@ -1,16 +1,17 @@
 -- A number written group by group.
-use Rattle.std.proofs.Common.{◌≡◌, ℕ, zero, suc, ◌+◌, ◌-◌, ◌/◌, ◌%◌, ◌^◌, ◌<◌, ◌≤◌, List, [], ◌∷◌, ◌++◌, length, take, drop, set, sym, refl, ap, ◌∙◌, subst, ⊎_elim, append_assoc, add-one, arith, drop-drop, take-suc-set, drop-set-lt}
+use Rattle.std.proofs.Common.{◌≡◌, ℕ, zero, suc, ◌+◌, ◌-◌, ◌/◌, ◌%◌, ◌^◌, ◌<◌, ◌≤◌, List, [], ◌∷◌, ◌++◌, length, take, drop, set, sym, refl, ap, ◌∙◌, subst, ⊎_elim, append_assoc, add-one, arith, take-suc-set}
 use lib.Seq.{set_split}
+use Rattle.std.proofs.lemmas.List.{length-append, length-drop, take_all, take_at}
+use Rattle.std.proofs.lemmas.Slice.{drop-append-drop}
 use Rattle.std.proofs.lemmas.Bool.{lt-ltb, le-ltb, cases_lt}
 use Rattle.plantlog.specs.Numbers.{groups, number_bytes}
 use Rattle.plantlog.specs.NumberLimits.{limit}
 use Rattle.plantlog.proofs.Groups.{groups_some}
 
--- i groups of n are written, last + 1 are to be, and rest is what is left of n
-pub record Sofar (n last : ℕ) (old : List ℕ) (i rest : ℕ) (out : List ℕ) : Type 0 where
+-- i groups of n are written at the front of out, last + 1 are to be, and rest is what is left of n
+pub record Sofar (n last i rest : ℕ) (out : List ℕ) : Type 0 where
   pub front : take i out ++ groups (4 - i) rest ≡ number_bytes n
   pub left : length (groups (4 - i) rest) ≡ suc (last - i)
-  pub back : drop i out ≡ drop i old
   pub low : rest < limit (4 - i)
 
 -- one group more, where m may come after it
@@ -29,15 +30,12 @@ the_last (suc m) rest long low =
     (λ big. let a = le-ltb rest 128 big in let z = rw a at long in absurd (omega (arith, z, groups_some m (rest / 128))))
     (cases_lt rest 128)
 
-next : (i : ℕ) (xs ys : List ℕ) → drop i xs ≡ drop i ys → drop (i + 1) xs ≡ drop (i + 1) ys
-next i xs ys e = sym (drop-drop 1 i xs) ∙ ap (drop 1) e ∙ drop-drop 1 i ys
-
-pub sofar_start : (n last : ℕ) (old : List ℕ) → last ≡ length (number_bytes n) - 1 → n < 2 ^ 32 → Sofar n last old 0 n old
+pub sofar_start : (n last : ℕ) (out : List ℕ) → last ≡ length (number_bytes n) - 1 → n < 2 ^ 32 → Sofar n last 0 n out
 unfolding number_bytes
-sofar_start n last old e h = record { front = refl; left = omega (arith, e, groups_some 4 n); back = refl; low = h }
+sofar_start n last out e h = record { front = refl; left = omega (arith, e, groups_some 4 n); low = h }
 
-pub sofar_more : (n last : ℕ) (old : List ℕ) (i rest : ℕ) (out : List ℕ) → i < last → last ≤ 4 → i < length out → Sofar n last old i rest out → Sofar n last old (i + 1) (rest / 128) (set out i (rest % 128 + 128))
-sofar_more n last old i rest out h k l s =
+pub sofar_more : (n last i rest : ℕ) (out : List ℕ) → i < last → last ≤ 4 → i < length out → Sofar n last i rest out → Sofar n last (i + 1) (rest / 128) (set out i (rest % 128 + 128))
+sofar_more n last i rest out h k l s =
     let e : 4 - i ≡ suc (3 - i) = omega arith in
     let e1 : 4 - (i + 1) ≡ 3 - i = omega arith in
     let long : length (groups (suc (3 - i)) rest) ≡ suc (suc (last - (i + 1))) = ap (λ (g : ℕ). length (groups g rest)) (sym e) ∙ s.left ∙ omega arith in
@@ -48,20 +46,23 @@ sofar_more n last old i rest out h k l s =
     record {
       front = (λ j. t1 j ++ enc j) ∙ append_assoc (take i out) ((rest % 128 + 128) ∷ []) (groups (3 - i) (rest / 128)) ∙ ap (λ (r : List ℕ). take i out ++ r) (sym (ap (λ (g : ℕ). groups g rest) e ∙ o.0)) ∙ s.front;
       left = ap (λ (g : ℕ). length (groups g (rest / 128))) e1 ∙ o.1;
-      back = drop-set-lt (i + 1) out i (rest % 128 + 128) (omega arith) ∙ next i out old s.back;
       low = subst (λ (g : ℕ). rest / 128 < limit g) (sym e1) o.2;
     }
 
-last_one : (n last : ℕ) (old : List ℕ) (rest : ℕ) (out : List ℕ) → Sofar n last old last rest out → (groups (4 - last) rest ≡ rest ∷ []) × (rest < 128)
-last_one n last old rest out s = the_last (4 - last) rest (s.left ∙ omega arith) s.low
+last_one : (n last rest : ℕ) (out : List ℕ) → Sofar n last last rest out → (groups (4 - last) rest ≡ rest ∷ []) × (rest < 128)
+last_one n last rest out s = the_last (4 - last) rest (s.left ∙ omega arith) s.low
 
-pub sofar_low : (n last i : ℕ) (old : List ℕ) (rest : ℕ) (out : List ℕ) → i ≡ last → Sofar n last old i rest out → rest < 128
-sofar_low n last i old rest out e s = (last_one n last old rest out (subst (λ j. Sofar n last old j rest out) e s)).1
+pub sofar_low : (n last i rest : ℕ) (out : List ℕ) → i ≡ last → Sofar n last i rest out → rest < 128
+sofar_low n last i rest out e s = (last_one n last rest out (subst (λ j. Sofar n last j rest out) e s)).1
 
-pub sofar_done : (n last i : ℕ) (old : List ℕ) (rest : ℕ) (out : List ℕ) → i ≡ last → last + 1 ≡ length (number_bytes n) → last < length out → Sofar n last old i rest out → set out last rest ≡ number_bytes n ++ drop (length (number_bytes n)) old
-sofar_done n last i old rest out end long h s0 =
-    let s = subst (λ j. Sofar n last old j rest out) end s0 in
-    let t = last_one n last old rest out s in
-    let fr = ap (λ (r : List ℕ). take last out ++ r) (sym t.0) ∙ s.front in
-    let bk = ap (λ (g : ℕ). drop g out) (sym (add-one last)) ∙ next last out old s.back ∙ ap (λ (g : ℕ). drop g old) long in
-    set_split out last rest h ∙ sym (append_assoc (take last out) (rest ∷ []) (drop (suc last) out)) ∙ (λ j. fr j ++ bk j)
+-- the last group behind the others
+pub sofar_done : (n last i rest : ℕ) (out old : List ℕ) → i ≡ last → last + 1 ≡ length (number_bytes n) → length out ≡ last → last < length old → Sofar n last i rest out → set (out ++ drop last old) last rest ≡ number_bytes n ++ drop (length (number_bytes n)) old
+sofar_done n last i rest out old end long same room s0 =
+    let s = subst (λ j. Sofar n last j rest out) end s0 in
+    let t = last_one n last rest out s in
+    let whole : out ++ (rest ∷ []) ≡ number_bytes n = (λ j. sym (take_all last out (omega (arith, same))) j ++ sym t.0 j) ∙ s.front in
+    let behind : drop (suc last) (out ++ drop last old) ≡ drop (length (number_bytes n)) old = drop-append-drop last old out (suc last) (omega arith) same ∙ ap (λ k. drop k old) (sym (add-one last) ∙ long) in
+    set_split (out ++ drop last old) last rest (omega (arith, length-append out (drop last old), length-drop last old, same))
+    ∙ (λ j. take_at out (drop last old) last same j ++ rest ∷ behind j)
+    ∙ sym (append_assoc out (rest ∷ []) (drop (length (number_bytes n)) old))
+    ∙ ap (λ l. l ++ drop (length (number_bytes n)) old) whole

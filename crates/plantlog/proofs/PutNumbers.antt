@@ -1,7 +1,7 @@
 -- Numbers written one after the other.
-use Rattle.std.proofs.Common.{◌≡◌, ℕ, ◌+◌, ◌-◌, ◌<◌, ◌≤◌, List, [], ◌++◌, length, get_or, take, drop, sym, refl, ap, ◌∙◌, append_assoc, arith}
+use Rattle.std.proofs.Common.{◌≡◌, ℕ, ◌+◌, ◌-◌, ◌<◌, ◌≤◌, List, [], ◌++◌, length, get_or, take, drop, sym, ap, ◌∙◌, append_assoc, arith}
 use borrow.Rule.Slice.PartMut.{put_mid}
-use Rattle.std.proofs.lemmas.List.{append-nil, length-append, length-drop, take_at, drop_at, take_rest, take_all, drop-drop, drop_all}
+use Rattle.std.proofs.lemmas.List.{append-nil, length-append, length-drop, take_at, drop_at, take_rest, drop-drop, drop_all}
 use Rattle.plantlog.specs.Numbers.{number_bytes}
 use Rattle.plantlog.specs.Format.{numbers_bytes}
 use Rattle.plantlog.proofs.NumbersBytes.{bytes_more, size_more, size_parts}
@@ -10,9 +10,6 @@ use Rattle.plantlog.proofs.NumbersBytes.{bytes_more, size_more, size_parts}
 pub record Put (ns old : List ℕ) (i at : ℕ) (out : List ℕ) : Type 0 where
   pub done : out ≡ numbers_bytes (take i ns) ++ drop at old
   pub long : at ≡ length (numbers_bytes (take i ns))
-
-pub put_start : (ns old : List ℕ) → Put ns old 0 0 old
-put_start ns old = record { done = refl; long = refl }
 
 module _ (ns old : List ℕ) (i at : ℕ) (out : List ℕ) (fits : length (numbers_bytes ns) ≤ length old) (p : Put ns old i at out) where
   front : take at out ≡ numbers_bytes (take i ns)
@@ -29,9 +26,6 @@ module _ (ns old : List ℕ) (i at : ℕ) (out : List ℕ) (fits : length (numbe
       let s = size_parts ns i in
       omega (arith, a, b, e, s, p.long)
 
-  pub at_within : at ≤ length out
-  at_within = let s = size_parts ns i in omega (arith, total, s, p.long)
-
   module _ (more : i < length ns) where
     pub next_fits : length (number_bytes (get_or ns i 0)) ≤ length (take (length out - at) (drop at out))
     next_fits =
@@ -40,9 +34,6 @@ module _ (ns old : List ℕ) (i at : ℕ) (out : List ℕ) (fits : length (numbe
         let t = ap length (take_rest out at) in
         let d = length-drop at out in
         omega (arith, s, m, t, d, total, p.long)
-
-    pub next_within : at + length (number_bytes (get_or ns i 0)) ≤ length out
-    next_within = let s = size_parts ns i in let m = size_more ns i more in omega (arith, s, m, total, p.long)
 
     pub put_more : (r : ℕ) (put : List ℕ) → r ≡ length (number_bytes (get_or ns i 0)) → put ≡ number_bytes (get_or ns i 0) ++ drop (length (number_bytes (get_or ns i 0))) (take (length out - at) (drop at out)) → Put ns old (i + 1) (at + r) (put_mid at (length out - at) out put)
     put_more r put size e =
@@ -60,8 +51,3 @@ module _ (ns old : List ℕ) (i at : ℕ) (out : List ℕ) (fits : length (numbe
               ∙ ap (λ l. l ++ drop (at + length n) old) (sym grown);
           long = ap (λ k. k + length n) p.long ∙ sym (length-append a n) ∙ ap length (sym grown);
         })
-
-  pub put_all : length ns ≤ i → out ≡ numbers_bytes ns ++ drop (length (numbers_bytes ns)) old
-  put_all end =
-      let all : take i ns ≡ ns = take_all i ns end in
-      p.done ∙ (λ j. numbers_bytes (all j) ++ drop ((p.long ∙ ap (λ l. length (numbers_bytes l)) all) j) old)

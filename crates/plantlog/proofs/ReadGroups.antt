@@ -47,10 +47,6 @@ went_on (suc m) several (x ∷ xs) b z e h k q =
     let q2 = q ∙ ap (λ (j : ℕ). first_number_by j true (behind (x ∷ xs))) g ∙ ap (λ (l : List ℕ). first_number_by m true l) t in
     rw a (rw e (ap (below_more (x - 128)) q2))
 
-pub limit_step : (m : ℕ) → 0 < m → limit m ≡ 128 * limit (m - 1)
-limit_step zero h = absurd (omega arith)
-limit_step (suc m) h = let g : m ≡ suc m - 1 = omega arith in ap (λ (j : ℕ). 128 * limit j) g
-
 pub limit_le : (m : ℕ) → m ≤ 3 → limit m ≤ 33554432
 limit_le zero h = omega arith
 limit_le (suc zero) h = omega arith

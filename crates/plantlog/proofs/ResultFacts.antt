@@ -5,9 +5,6 @@ use Rattle.plantlog.specs.Results.{of_ok, and_then}
 pub ok_is : {T E : Type 0} {x y : T} → ◌≡◌ {A = Result T E} (Ok x) (Ok y) → x ≡ y
 ok_is e = cc
 
-pub err_is : {T E : Type 0} {x y : E} → ◌≡◌ {A = Result T E} (Err x) (Err y) → x ≡ y
-err_is e = cc
-
 pub err_no_ok : {T E : Type 0} {e : E} {y : T} → ◌≡◌ {A = Result T E} (Err e) (Ok y) → ⊥
 err_no_ok e = let z : ◌≡◌ {A = ℕ} 0 1 = cc in omega arith
 

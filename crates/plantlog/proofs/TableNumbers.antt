@@ -1,21 +1,21 @@
 -- A table's numbers, one by one.
-use Rattle.std.proofs.Common.{◌≡◌, ℕ, ◌+◌, ◌<◌, ◌≤◌, List, [], ◌∷◌, ◌++◌, length, get_or, take, set, sym, refl, ap, ◌∙◌, arith, length-set}
-use Rattle.std.proofs.lemmas.List.{take_more, take_more_set, take_all, length-map, get_or-map}
+use Rattle.std.proofs.Common.{◌≡◌, ℕ, ◌+◌, ◌<◌, List, [], ◌∷◌, ◌++◌, length, get_or, take, set, sym, refl, ap, ◌∙◌, arith, length-set}
+use Rattle.std.proofs.lemmas.List.{take_more, take_more_set, length-map, get_or-map}
 use Rattle.edetector.specs.declared.units.Weight.{Weight}
 use Rattle.edetector.specs.Units.{weights_in}
 
 -- the number of weights and the first k of them are in the list
 pub record Listed (ws : List Weight) (k : ℕ) (list : List ℕ) : Type 0 where
-  pub room : length list ≡ 17
+  pub room : length list ≡ length ws + 1
   pub front : take (k + 1) list ≡ length ws ∷ take k (weights_in ws)
 
 module _ (ws : List Weight) where
-  pub listed_start : (list : List ℕ) → length list ≡ 17 → Listed ws 0 (set list 0 (length ws))
-  listed_start [] h = absurd (omega arith)
+  pub listed_start : (list : List ℕ) → length list ≡ length ws + 1 → Listed ws 0 (set list 0 (length ws))
+  listed_start [] h = absurd (omega (arith, h))
   listed_start (x ∷ xs) h = record { room = h; front = refl }
 
-  pub listed_more : (k : ℕ) (list : List ℕ) (w : ℕ) → k < length ws → length ws ≤ 16 → w ≡ (get_or ws k (record { 0 = 0 })).0 → Listed ws k list → Listed ws (k + 1) (set list (k + 1) w)
-  listed_more k list w more few is l =
+  pub listed_more : (k : ℕ) (list : List ℕ) (w : ℕ) → k < length ws → w ≡ (get_or ws k (record { 0 = 0 })).0 → Listed ws k list → Listed ws (k + 1) (set list (k + 1) w)
+  listed_more k list w more is l =
       let h : k + 1 < length list = omega (arith, l.room) in
       let m : k < length (weights_in ws) = omega (arith, length-map ws (λ w. w.0)) in
       let here : w ≡ get_or (weights_in ws) k 0 = is ∙ sym (get_or-map (λ w. w.0) ws k (record { 0 = 0 }) 0 more) in
@@ -26,11 +26,3 @@ module _ (ws : List Weight) where
             ∙ (λ j. l.front j ++ (here j ∷ []))
             ∙ ap (λ r. length ws ∷ r) (sym (take_more (weights_in ws) k 0 m));
       }
-
-  pub listed_all : (k : ℕ) (list : List ℕ) → k ≡ length ws → Listed ws k list → take (length ws + 1) list ≡ length ws ∷ weights_in ws
-  listed_all k list end l =
-      ap (λ j. take (j + 1) list) (sym end) ∙ l.front ∙ ap (λ r. length ws ∷ r) (take_all k (weights_in ws) (omega (arith, length-map ws (λ w. w.0))))
-
--- a table's numbers, with the number of its weights as the code counts them
-pub counted : (ws : List Weight) (list : List ℕ) → list ≡ length ws ∷ weights_in ws → list ≡ length (weights_in ws) ∷ weights_in ws
-counted ws list e = e ∙ ap (λ k. k ∷ weights_in ws) (sym (length-map ws (λ w. w.0)))

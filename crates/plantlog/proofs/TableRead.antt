@@ -1,11 +1,8 @@
 -- A table read: its weights keep their limits, so that only the total is left to judge.
-use Rattle.std.proofs.Common.{◌≡◌, ℕ, zero, suc, ◌-◌, Bool, true, false, cond, List, [], ◌∷◌, length, take, drop, Some, None, Ok, Err, Option, Result, sym, refl, ap, ◌∙◌, arith}
-use Rattle.std.proofs.lemmas.List.{take-map}
+use Rattle.std.proofs.Common.{◌≡◌, ℕ, zero, suc, Bool, true, false, cond, List, [], ◌∷◌, length, Some, None, Ok, Err, Option, Result, sym, refl, ap, ◌∙◌}
 use Rattle.std.proofs.lemmas.Bool.{and_from}
 use Rattle.edetector.specs.declared.value.ValueFault.{ValueFault}
 use Rattle.edetector.specs.declared.value.ValueFault.TheVariants.{Classes, Weight, Total}
-use Rattle.edetector.specs.declared.units.Weight.{Weight as UnitWeight}
-use Rattle.edetector.specs.Units.{weights_in}
 use Rattle.edetector.specs.Tables.{from_to, total, weights_within, table_fault}
 use Rattle.plantlog.specs.declared.fault.RecordFault.{RecordFault}
 use Rattle.plantlog.specs.declared.fault.RecordFault.TheVariants.{Value}
@@ -44,35 +41,44 @@ by_total true true false r p q = refl
 by_total true false t r p q = cc
 by_total false b t r p q = cc
 
-pub table_judged : (low : ℕ) (bs ws rest : List ℕ) → Ok (ws, rest) ≡ table_weights low bs → table_fields low bs ≡ judged (table_fault low ws) (ended ws rest)
+-- the total, and then nothing more
+abbrev by_sum : List ℕ × List ℕ → Result (List ℕ) RecordFault
+by_sum ws = cond (from_to 1 65536 (total ws.0)) (ended ws.0 ws.1) (Err (Value Total))
+
+table_judged : (low : ℕ) (bs ws rest : List ℕ) → Ok (ws, rest) ≡ table_weights low bs → table_fields low bs ≡ judged (table_fault low ws) (ended ws rest)
 unfolding table_fields
 table_judged low bs ws rest e =
     let t = table_were low bs ws rest (sym e) in
-    ap (λ r. and_then r (λ ws. cond (from_to 1 65536 (total ws.0)) (ended ws.0 ws.1) (Err (Value Total)))) (sym e)
+    ap (λ r. and_then r by_sum) (sym e)
     ∙ by_total (from_to 2 16 (length ws)) (weights_within low ws) (from_to 1 65536 (total ws)) (ended ws rest) t.0 t.1
 
--- the part of an array that is handed over as a table
-part_in : (k : ℕ) (list : List UnitWeight) → weights_in (take (k - 0) (drop 0 list)) ≡ take k (weights_in list)
-part_in k list =
-    let e : k - 0 ≡ k = omega arith in
-    ap (λ j. weights_in (take j list)) e ∙ sym (take-map (λ w. w.0) k list)
+module _ (low : ℕ) (bs : List ℕ) where
+  pub refused_count : (f : RecordFault) → Err f ≡ field 2 16 (Value Classes) bs → Err f ≡ table_fields low bs
+  unfolding table_fields table_weights
+  refused_count f e = ap (λ r. and_then (and_then r (λ k. weights low k.0 k.1)) by_sum) e
 
-module _ (low : ℕ) (bs : List ℕ) (k : ℕ) (list : List UnitWeight) (rest : List ℕ) (read : Ok (take k (weights_in list), rest) ≡ table_weights low bs) where
-  by_part : (o : Option ValueFault) → table_fault low (weights_in (take (k - 0) (drop 0 list))) ≡ o → table_fields low bs ≡ judged o (ended (take k (weights_in list)) rest)
-  by_part o e =
-      table_judged low bs (take k (weights_in list)) rest read
-      ∙ ap (λ f. judged f (ended (take k (weights_in list)) rest)) (ap (table_fault low) (sym (part_in k list)) ∙ e)
+  module _ (k : ℕ) (behind : List ℕ) (counted : Ok (k, behind) ≡ field 2 16 (Value Classes) bs) where
+    reads : {r : Result (List ℕ × List ℕ) RecordFault} (places : ℕ) → places ≡ k → r ≡ weights low places behind → r ≡ table_weights low bs
+    unfolding table_weights
+    reads places same e = e ∙ ap (λ j. weights low j behind) same ∙ ap (λ r. and_then r (λ k. weights low k.0 k.1)) counted
 
-  pub refused_whole : (f : ValueFault) → table_fault low (weights_in (take (k - 0) (drop 0 list))) ≡ Some f → Err (Value f) ≡ table_fields low bs
-  refused_whole f e = sym (by_part (Some f) e)
+    pub refused_weight : (f : RecordFault) (places : ℕ) → places ≡ k → Err f ≡ weights low places behind → Err f ≡ table_fields low bs
+    unfolding table_fields
+    refused_weight f places same e = ap (λ r. and_then r by_sum) (reads places same e)
 
-  module _ (none : table_fault low (weights_in (take (k - 0) (drop 0 list))) ≡ None) where
-    pub refused_more : (f : RecordFault) → Err f ≡ no_more rest → Err f ≡ table_fields low bs
-    refused_more f e = ap (of_ok (λ _. take k (weights_in list))) e ∙ sym (by_part None none)
+    module _ (ws rest : List ℕ) (places : ℕ) (same : places ≡ k) (read : Ok (ws, rest) ≡ weights low places behind) where
+      whole : Ok (ws, rest) ≡ table_weights low bs
+      whole = reads places same read
 
-    pub accepted : (ws : List ℕ) → ws ≡ weights_in (take (k - 0) (drop 0 list)) → Ok tt ≡ no_more rest → Ok ws ≡ table_fields low bs
-    accepted ws same e = ap Ok (same ∙ part_in k list) ∙ ap (of_ok (λ _. take k (weights_in list))) e ∙ sym (by_part None none)
+      by_fault : (o : Option ValueFault) → table_fault low ws ≡ o → table_fields low bs ≡ judged o (ended ws rest)
+      by_fault o e = table_judged low bs ws rest whole ∙ ap (λ f. judged f (ended ws rest)) e
 
-pub refused_table : (low : ℕ) (bs : List ℕ) (f : RecordFault) → Err f ≡ table_weights low bs → Err f ≡ table_fields low bs
-unfolding table_fields
-refused_table low bs f e = ap (λ r. and_then r (λ ws. cond (from_to 1 65536 (total ws.0)) (ended ws.0 ws.1) (Err (Value Total)))) e
+      pub refused_whole : (f : ValueFault) → table_fault low ws ≡ Some f → Err (Value f) ≡ table_fields low bs
+      refused_whole f e = sym (by_fault (Some f) e)
+
+      module _ (none : table_fault low ws ≡ None) where
+        pub refused_more : (f : RecordFault) → Err f ≡ no_more rest → Err f ≡ table_fields low bs
+        refused_more f e = ap (of_ok (λ _. ws)) e ∙ sym (by_fault None none)
+
+        pub accepted : (held : List ℕ) → held ≡ ws → Ok tt ≡ no_more rest → Ok held ≡ table_fields low bs
+        accepted held same e = ap Ok same ∙ ap (of_ok (λ _. ws)) e ∙ sym (by_fault None none)

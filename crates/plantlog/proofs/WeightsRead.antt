@@ -1,6 +1,6 @@
 -- Weights read one by one.
-use Rattle.std.proofs.Common.{◌≡◌, ℕ, suc, ◌+◌, ◌-◌, ◌<◌, ◌≤◌, List, [], ◌∷◌, ◌++◌, length, take, set, Ok, Err, Result, sym, refl, ap, ◌∙◌, append_assoc, arith, length-set}
-use Rattle.std.proofs.lemmas.List.{append-nil, length-map, map-set, take_more_set}
+use Rattle.std.proofs.Common.{◌≡◌, ℕ, suc, ◌+◌, ◌-◌, ◌<◌, List, [], ◌∷◌, ◌++◌, length, take, set, Ok, Err, Result, sym, refl, ap, ◌∙◌, append_assoc, arith, length-set}
+use Rattle.std.proofs.lemmas.List.{length-map, map-set, take_more_set}
 use Rattle.edetector.specs.declared.units.Weight.{Weight}
 use Rattle.edetector.specs.declared.value.ValueFault.TheVariants.{Weight as WeightFault}
 use Rattle.edetector.specs.Units.{weights_in}
@@ -13,31 +13,22 @@ use Rattle.plantlog.specs.FirstRecord.{field, weights}
 abbrev pub after : List ℕ → Result (List ℕ × List ℕ) RecordFault → Result (List ℕ × List ℕ) RecordFault
 after before r = of_ok (λ p. (before ++ p.0, p.1)) r
 
-after_none : (r : Result (List ℕ × List ℕ) RecordFault) → after [] r ≡ r
-after_none (Ok p) = refl
-after_none (Err e) = refl
-
 after_one : (before : List ℕ) (w : ℕ) (r : Result (List ℕ × List ℕ) RecordFault) → after (before ++ (w ∷ [])) r ≡ after before (of_ok (λ ws. (w ∷ ws.0, ws.1)) r)
 after_one before w (Ok p) = ap (λ l. Ok (l, p.1)) (append_assoc before (w ∷ []) p.0)
 after_one before w (Err e) = refl
 
 -- k weights are read, and rest is what is left of the bytes
 pub record Sofar (low classes : ℕ) (bytes : List ℕ) (k : ℕ) (list : List Weight) (rest : List ℕ) : Type 0 where
-  pub room : length list ≡ 16
+  pub room : length list ≡ classes
   pub left : after (take k (weights_in list)) (weights low (classes - k) rest) ≡ weights low classes bytes
 
 module _ (low classes : ℕ) (bytes : List ℕ) where
-  pub sofar_start : (list : List Weight) → length list ≡ 16 → Sofar low classes bytes 0 list bytes
-  sofar_start list h =
-      let e : classes - 0 ≡ classes = omega arith in
-      record { room = h; left = after_none _ ∙ ap (λ j. weights low j bytes) e }
-
   module _ (k : ℕ) (list : List Weight) (rest : List ℕ) (more : k < classes) (s : Sofar low classes bytes k list rest) where
     step : weights low (classes - k) rest ≡ weights low (suc (classes - (k + 1))) rest
     step = let e : classes - k ≡ suc (classes - (k + 1)) = omega arith in ap (λ j. weights low j rest) e
 
-    pub sofar_more : classes ≤ 16 → (w : ℕ) (behind : List ℕ) → Ok (w, behind) ≡ field low 65536 (Value WeightFault) rest → Sofar low classes bytes (k + 1) (set list k (record { 0 = w })) behind
-    sofar_more few w behind read =
+    pub sofar_more : (w : ℕ) (behind : List ℕ) → Ok (w, behind) ≡ field low 65536 (Value WeightFault) rest → Sofar low classes bytes (k + 1) (set list k (record { 0 = w })) behind
+    sofar_more w behind read =
         let j = classes - (k + 1) in
         let h : k < length (weights_in list) = omega (arith, length-map list (λ w. w.0), s.room) in
         let grown : take (k + 1) (weights_in (set list k (record { 0 = w }))) ≡ take k (weights_in list) ++ (w ∷ []) = ap (take (k + 1)) (map-set (λ w. w.0) list k (record { 0 = w })) ∙ take_more_set (weights_in list) k w h in
@@ -52,11 +43,3 @@ module _ (low classes : ℕ) (bytes : List ℕ) where
         let j = classes - (k + 1) in
         let here : weights low (suc j) rest ≡ Err e = ap (λ f. and_then f (λ w. of_ok (λ ws. (w.0 ∷ ws.0, ws.1)) (weights low j w.1))) (sym read) in
         sym (ap (after (take k (weights_in list))) (step ∙ here)) ∙ s.left
-
-  pub done : (k : ℕ) (list : List Weight) (rest : List ℕ) → k ≡ classes → Sofar low classes bytes k list rest → Ok (take classes (weights_in list), rest) ≡ weights low classes bytes
-  done k list rest end s =
-      let e : classes - k ≡ 0 = omega arith in
-      ap (λ j. Ok (take j (weights_in list), rest)) (sym end)
-      ∙ ap (λ l. Ok (l, rest)) (sym (append-nil (take k (weights_in list))))
-      ∙ sym (ap (λ j. after (take k (weights_in list)) (weights low j rest)) e)
-      ∙ s.left

@@ -1,20 +1,15 @@
 -- What a call of the writer gives and leaves, from the record put into its buffer.
-use Rattle.std.proofs.Common.{◌≡◌, ℕ, ◌+◌, ◌-◌, ◌≤◌, Bool, true, false, cond, leb, List, ◌∷◌, length, take, drop, IfOk, None, Ok, Err, Result, sym, refl, ap, ◌∙◌, subst, arith}
+use Rattle.std.proofs.Common.{◌≡◌, ℕ, ◌≤◌, Bool, true, false, cond, leb, List, ◌∷◌, length, drop, IfOk, Ok, Err, Result, sym, refl, ap, ◌∙◌, subst, arith}
 use Rattle.std.proofs.lemmas.Bool.{leb-true}
-use Rattle.std.proofs.lemmas.List.{length-map}
-use Rattle.edetector.specs.declared.units.Weight.{Weight}
-use Rattle.edetector.specs.Units.{weights_in}
-use Rattle.edetector.specs.Tables.{table_fault}
 use Rattle.plantlog.specs.declared.fault.RecordFault.{RecordFault}
 use Rattle.plantlog.specs.declared.fault.RecordFault.TheVariants.{WriteBuffer}
 use Rattle.plantlog.specs.Results.{and_then}
-use Rattle.plantlog.specs.Format.{Fields, kind_byte, numbers, numbers_bytes, framed, record_bytes, of_value, fields_fault}
+use Rattle.plantlog.specs.Format.{Fields, kind_byte, numbers, numbers_bytes, framed, record_bytes, fields_fault}
 use Rattle.plantlog.specs.FirstRecord.{first_record}
 use Rattle.plantlog.specs.Laws.{Sayable}
 use Rattle.plantlog.specs.Written.{fields_judged, room_judged, after_write, Wrote}
 use Rattle.plantlog.proofs.ResultFacts.{ok_is, err_no_ok}
-use Rattle.plantlog.proofs.WriteFacts.{not_refused, few_classes, part_is}
-use Rattle.plantlog.proofs.TableNumbers.{counted}
+use Rattle.plantlog.proofs.WriteFacts.{not_refused}
 use Rattle.plantlog.proofs.ReadBack.{read_back}
 
 back : (f : Fields) → Ok tt ≡ fields_judged f → Sayable (numbers f) → (r : Result ℕ RecordFault) (out old : List ℕ) → out ≡ after_write r (record_bytes f) old → IfOk r (λ n. first_record out ≡ Ok (f, drop n old))
@@ -30,10 +25,10 @@ fits : (r : Result ℕ RecordFault) (long room : ℕ) → r ≡ room_judged long
 fits r long room e = fits_by (leb long room) long room (leb-true long room) r e
 
 -- the kind byte and the numbers of f were put
-pub wrote : (f : Fields) (ns : List ℕ) (r : Result ℕ RecordFault) (out old : List ℕ) → ns ≡ numbers f → Ok tt ≡ fields_judged f → Sayable ns → r ≡ room_judged (length (framed (kind_byte f ∷ numbers_bytes ns))) (length old) → out ≡ after_write r (framed (kind_byte f ∷ numbers_bytes ns)) old → Wrote f old r out
+pub wrote : (f : Fields) (kind : ℕ) (ns : List ℕ) (r : Result ℕ RecordFault) (out old : List ℕ) → kind ≡ kind_byte f → ns ≡ numbers f → Ok tt ≡ fields_judged f → Sayable ns → r ≡ room_judged (length (framed (kind ∷ numbers_bytes ns))) (length old) → out ≡ after_write r (framed (kind ∷ numbers_bytes ns)) old → Wrote f old r out
 unfolding record_bytes
-wrote f ns r out old is ok small value after =
-    let frame = ap (λ l. framed (kind_byte f ∷ numbers_bytes l)) is in
+wrote f kind ns r out old at is ok small value after =
+    let frame : framed (kind ∷ numbers_bytes ns) ≡ record_bytes f = (λ j. framed (at j ∷ numbers_bytes (is j))) in
     let held = after ∙ ap (λ l. after_write r l old) frame in
     record {
       value =
@@ -43,11 +38,3 @@ wrote f ns r out old is ok small value after =
       back = back f ok (subst Sayable is small) r out old held;
       fits = fits r _ (length old) value;
     }
-
--- a table's weights are few enough for the list of its numbers
-pub few_enough : (low : ℕ) (ws : List Weight) → table_fault low (weights_in ws) ≡ None → length ws ≤ 16
-few_enough low ws e = let h = few_classes low (weights_in ws) (ap of_value e) in omega (arith, h, length-map ws (λ w. w.0))
-
--- the part of the list that holds a table's numbers
-pub table_part : (ws : List Weight) (list : List ℕ) → take (length ws + 1) list ≡ length ws ∷ weights_in ws → take ((length ws + 1) - 0) (drop 0 list) ≡ length (weights_in ws) ∷ weights_in ws
-table_part ws list e = counted ws _ (part_is (length ws + 1) list _ e)

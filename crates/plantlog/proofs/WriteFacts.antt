@@ -1,5 +1,5 @@
 -- What the writer may take for granted once the fields are judged.
-use Rattle.std.proofs.Common.{◌≡◌, ℕ, suc, ◌-◌, ◌^◌, ◌<◌, ◌≤◌, Bool, true, false, cond, List, [], ◌∷◌, length, get_or, take, drop, Some, None, Ok, Option, sym, refl, ap, ◌∙◌, arith}
+use Rattle.std.proofs.Common.{◌≡◌, ℕ, suc, ◌^◌, ◌<◌, Bool, true, false, cond, List, [], ◌∷◌, length, get_or, Some, None, Ok, Option, sym, refl}
 use Rattle.edetector.specs.declared.value.ValueFault.{ValueFault}
 use Rattle.edetector.specs.declared.value.ValueFault.TheVariants.{Classes, Weight, Total}
 use Rattle.edetector.specs.Tables.{from_to, total, weights_within, table_fault}
@@ -8,7 +8,6 @@ use Rattle.plantlog.specs.Format.{of_value}
 use Rattle.plantlog.specs.Laws.{Sayable}
 use Rattle.plantlog.specs.Written.{unless}
 use Rattle.plantlog.proofs.ResultFacts.{err_no_ok}
-use Rattle.plantlog.proofs.Limits.{within}
 
 -- the limits of an unbroken table, one by one
 pub record Unbroken (low : ℕ) (ws : List ℕ) : Type 0 where
@@ -34,13 +33,6 @@ unbroken low ws e =
 pub not_refused : (o : Option RecordFault) → Ok tt ≡ unless o → o ≡ None
 not_refused None e = refl
 not_refused (Some f) e = absurd (err_no_ok (sym e))
-
-pub few_classes : (low : ℕ) (ws : List ℕ) → of_value (table_fault low ws) ≡ None → length ws ≤ 16
-few_classes low ws e = (within 2 16 (length ws) (unbroken low ws e).classes).1
-
--- the part of an array that holds the numbers
-pub part_is : (k : ℕ) (list ns : List ℕ) → take k list ≡ ns → take (k - 0) (drop 0 list) ≡ ns
-part_is k list ns e = let z : k - 0 ≡ k = omega arith in ap (λ j. take j list) z ∙ e
 
 -- numbers of 32 bits each
 pub sayable : (ns : List ℕ) → ((i : ℕ) → get_or ns i 0 < 2 ^ 32) → Sayable ns

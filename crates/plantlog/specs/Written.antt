@@ -1,10 +1,12 @@
 -- What writing a record answers, and what the buffer holds then.
-use Rattle.std.specs.Prelude.{◌≡◌, ℕ, ◌≤◌, cond, List, ◌++◌, length, drop, IfOk, Some, None, Ok, Err, Option, Result, nat_le}
+use Rattle.std.specs.Prelude.{◌≡◌, ℕ, ◌≤◌, cond, List, ◌∷◌, ◌++◌, length, drop, IfOk, Some, None, Ok, Err, Option, Result, nat_le}
+use Rattle.edetector.specs.Tables.{table_fault}
 use Rattle.plantlog.specs.FirstRecord.{first_record}
 use Rattle.plantlog.specs.declared.fault.RecordFault.{RecordFault}
 use Rattle.plantlog.specs.declared.fault.RecordFault.TheVariants.{WriteBuffer}
+use Rattle.plantlog.specs.declared.record.Kind.{Kind}
 use Rattle.plantlog.specs.Results.{and_then}
-use Rattle.plantlog.specs.Format.{Fields, fields_fault, record_bytes}
+use Rattle.plantlog.specs.Format.{Fields, kind_of, numbers, of_value, fields_fault, record_bytes}
 
 abbrev pub unless : Option RecordFault → Result (Unit {0}) RecordFault
 unless None = Ok tt
@@ -33,3 +35,9 @@ pub record Wrote (f : Fields) (old : List ℕ) (r : Result ℕ RecordFault) (out
   pub after : out ≡ after_write r (record_bytes f) old
   pub back : IfOk r (λ n. first_record out ≡ Ok (f, drop n old))
   pub fits : IfOk r (λ n. n ≤ length old)
+
+-- the fields are those of a table: its kind, its weights, and the limits that it may break
+pub record SaysTable (of : Kind) (least : ℕ) (ws : List ℕ) (f : Fields) : Type 0 where
+  pub kind : kind_of f ≡ of
+  pub numbers : numbers f ≡ length ws ∷ ws
+  pub limits : fields_fault f ≡ of_value (table_fault least ws)

@@ -6,7 +6,7 @@ ghost use Rattle.plantlog.specs.RecordFaults.{record_fault_number, record_fault_
 use super::number::NumberFault;
 use edetector::value::ValueFault;
 
-#[derive(Clone, Copy)]
+#[derive(Clone, Copy, Debug, PartialEq, Eq)]
 pub enum RecordFault {
     // a value of the record breaks its limits
     Value(ValueFault),
@@ -33,20 +33,20 @@ pub enum RecordFault {
 }
 
 // Where a refusal was found.
-#[derive(Clone, Copy)]
+#[derive(Clone, Copy, Debug, PartialEq, Eq)]
 pub enum Layer {
     Value,
     Number,
     Record,
 }
 
-impl RecordFault {
-    pub fn number(self) -> u8
-        ensures { result ≡ record_fault_number self }
-    {
-        match self {
-            RecordFault::Value(cause) => cause.number(),
-            RecordFault::Number(cause) => cause.number(),
+impl From<RecordFault> for u8 {
+    ghost from_gives = { λ fault n. n ≡ record_fault_number fault };
+
+    fn from(fault: RecordFault) -> u8 {
+        match fault {
+            RecordFault::Value(cause) => u8::from(cause),
+            RecordFault::Number(cause) => u8::from(cause),
             RecordFault::ReceiveBuffer => 27,
             RecordFault::NoneLeft => 45,
             RecordFault::LengthByte => 21,
@@ -58,7 +58,9 @@ impl RecordFault {
             RecordFault::WriteBuffer => 26,
         }
     }
+}
 
+impl RecordFault {
     pub fn layer(self) -> Layer
         ensures { result ≡ record_fault_layer self }
     {

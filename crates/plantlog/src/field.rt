@@ -1,66 +1,66 @@
-// The fields of a record, one after the other.
-ghost use Rattle.std.specs.Prelude.{◌≡◌, ℕ, ◌-◌, ◌≤◌, List, [], length};
-ghost use Rattle.plantlog.specs.declared.fault.RecordFault.TheVariants.{UnknownChoice};
+// The fields of a record, taken one after the other.
+ghost use Rattle.std.specs.Prelude.{◌≡◌, ℕ, ◌-◌, ◌≤◌, List, [], length, IfOk};
+ghost use Rattle.edetector.specs.Units.{weights_in};
 ghost use Rattle.plantlog.specs.Results.{of_ok};
-ghost use Rattle.plantlog.specs.Choices.{rule_number, bettor_number};
-ghost use Rattle.plantlog.specs.FirstRecord.{any_field, field, no_more};
+ghost use Rattle.plantlog.specs.FirstRecord.{any_field, field, no_more, weights as weights_read};
 
 use super::fault::RecordFault;
 use super::number::read_number;
-use super::record::{BettorChoice, RuleChoice};
+use edetector::units::Weight;
+use edetector::value::ValueFault;
 
-pub(super) fn any_field(bytes: &[u8]) -> Result<(u32, &[u8]), RecordFault>
-    ensures { of_ok (λ p. (p.0, p.1.now)) result ≡ any_field bytes.now }
-{
-    let (n, rest) = read_number(bytes)?;
-    Ok((n, rest))
+// The bytes of the fields that are still to be taken.
+#[derive(Drop)]
+pub(super) struct FieldsLeft<'a> {
+    pub(super) bytes: &'a [u8],
 }
 
-// A number from `low` to `high`.
-pub(super) fn field_within(
-    bytes: &[u8],
-    low: u32,
-    high: u32,
-    fault: RecordFault,
-) -> Result<(u32, &[u8]), RecordFault>
-    ensures { of_ok (λ p. (p.0, p.1.now)) result ≡ field low high fault bytes.now }
-{
-    let (n, rest) = any_field(bytes)?;
-    if n < low || n > high {
-        return Err(fault);
+impl<'a> FieldsLeft<'a> {
+    #[tactic(auto, unfolding(crate::specs::FirstRecord::any_field))]
+    pub(super) fn number(&mut self) -> Result<u32, RecordFault>
+        ensures { of_ok (λ n. (n, self.new.bytes.now)) result ≡ any_field self.old.bytes.now }
+    {
+        let (n, rest) = read_number(self.bytes)?;
+        self.bytes = rest;
+        Ok(n)
     }
-    Ok((n, rest))
-}
 
-pub(super) fn rule_field(bytes: &[u8]) -> Result<(RuleChoice, &[u8]), RecordFault>
-    ensures { of_ok (λ p. (rule_number p.0, p.1.now)) result ≡ field 1 2 UnknownChoice bytes.now }
-{
-    let (n, rest) = any_field(bytes)?;
-    match n {
-        1 => Ok((RuleChoice::ShiryaevRoberts, rest)),
-        2 => Ok((RuleChoice::Page, rest)),
-        _ => Err(RecordFault::UnknownChoice),
+    // A number from `low` to `high`.
+    #[tactic(auto, unfolding(crate::specs::FirstRecord::field))]
+    pub(super) fn within(
+        &mut self,
+        low: u32,
+        high: u32,
+        fault: RecordFault,
+    ) -> Result<u32, RecordFault>
+        ensures value { of_ok (λ n. (n, self.new.bytes.now)) result ≡ field low high fault self.old.bytes.now }
+        ensures limits { IfOk result (λ n. (low ≤ n) × (n ≤ high)) }
+    {
+        let n = self.number()?;
+        if !(low..=high).contains(&n) {
+            return Err(fault);
+        }
+        Ok(n)
     }
-}
 
-pub(super) fn bettor_field(bytes: &[u8]) -> Result<(BettorChoice, &[u8]), RecordFault>
-    ensures { of_ok (λ p. (bettor_number p.0, p.1.now)) result ≡ field 1 3 UnknownChoice bytes.now }
-{
-    let (n, rest) = any_field(bytes)?;
-    match n {
-        1 => Ok((BettorChoice::Fixed, rest)),
-        2 => Ok((BettorChoice::Adaptive, rest)),
-        3 => Ok((BettorChoice::Mixture, rest)),
-        _ => Err(RecordFault::UnknownChoice),
+    // As many weights of at least `low` as the slice has places.
+    pub(super) fn weights(&mut self, low: u32, weights: &mut [Weight]) -> Result<(), RecordFault>
+        ensures { of_ok (λ _. (weights_in weights.new, self.new.bytes.now)) result
+            ≡ weights_read low (length weights.old) self.old.bytes.now }
+    {
+        for weight in weights.iter_mut() {
+            *weight = Weight(self.within(low, 65536, RecordFault::Value(ValueFault::Weight))?);
+        }
+        Ok(())
     }
-}
 
-// Nothing may follow the last field.
-pub(super) fn no_more(bytes: &[u8]) -> Result<(), RecordFault>
-    ensures { result ≡ no_more bytes.now }
-{
-    match bytes {
-        [] => Ok(()),
-        [_, ..] => Err(RecordFault::LeftOver),
+    // Nothing may follow the last field.
+    pub(super) fn end(&self) -> Result<(), RecordFault>
+        ensures { result ≡ no_more self.now.bytes.now }
+    {
+        match self.bytes {
+            [] => Ok(()),
+            [_, ..] => Err(RecordFault::LeftOver),
+        }
     }
 }

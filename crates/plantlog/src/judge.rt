@@ -7,26 +7,26 @@ ghost use Rattle.plantlog.specs.Views.{parsed_said};
 ghost use Rattle.plantlog.specs.Calls.{next_in, span, asked};
 
 use super::fault::RecordFault;
-use super::guard::Guard;
+use super::guard::{Guard, LONGEST_BODY};
 use super::parse::parse;
 use super::record::{Kind, Parsed};
 
 // The body in front, by its length byte.
 fn front_body(left: &[u8]) -> Result<&[u8], RecordFault>
     ensures value { of_ok (λ b. (b.now, drop (length b.now + 1) left.now)) result ≡ front left.now }
-    ensures room { IfOk result (λ b. (length b.now + 1 ≡ span left.now) × (length b.now + 1 ≤ length left.now) × (length b.now ≤ 63)) }
+    ensures room { IfOk result (λ b. (length b.now + 1 ≡ span left.now) × (length b.now + 1 ≤ length left.now) × (length b.now ≤ LONGEST_BODY)) }
 {
     let [length, rest @ ..] = left else {
         return Err(RecordFault::NoneLeft);
     };
     let n = *length as usize;
-    if n < 1 || n > 63 {
+    if !(1..=LONGEST_BODY).contains(&n) {
         return Err(RecordFault::LengthByte);
     }
-    if rest.len() < n {
+    let Some(body) = rest.get(..n) else {
         return Err(RecordFault::Truncated);
-    }
-    Ok(&rest[0..n])
+    };
+    Ok(body)
 }
 
 // The record in front, and how many bytes it takes.
@@ -36,9 +36,7 @@ pub(super) fn judge_next(left: &[u8], buf: &mut [u8]) -> Result<(Parsed, usize),
     ensures room { IfOk result (λ p. (p.1 ≡ span left.now) × (p.1 ≤ length left.now) × (1 ≤ p.1)) }
 {
     let guard = Guard { buf };
-    if guard.buf.len() < 63 {
-        return Err(RecordFault::ReceiveBuffer);
-    }
+    guard.fits()?;
     let body = front_body(left)?;
     let n = body.len();
     guard.buf[0..n].copy_from_slice(body);
@@ -52,8 +50,6 @@ pub(super) fn none_left(buf: &mut [u8]) -> Result<Option<Kind>, RecordFault>
     ensures value { result ≡ asked (length buf.old) [] }
 {
     let guard = Guard { buf };
-    if guard.buf.len() < 63 {
-        return Err(RecordFault::ReceiveBuffer);
-    }
+    guard.fits()?;
     Ok(None)
 }

@@ -5,38 +5,31 @@ ghost use Rattle.plantlog.specs.NumberFaults.{number_fault_number};
 ghost use Rattle.plantlog.specs.Numbers.{number_bytes, first_number, first_number_by};
 ghost use Rattle.plantlog.specs.NumberLimits.{BelowLimit};
 
-#[derive(Clone, Copy)]
+#[derive(Clone, Copy, Debug, PartialEq, Eq)]
 pub enum NumberFault {
     // the fifth byte is above 0F
-    Wide,
+    Wide = 13,
     // the bytes end before the number does
-    CutShort,
+    CutShort = 11,
     // the last of several groups is 00
-    Padded,
+    Padded = 12,
 }
 
-impl NumberFault {
-    pub fn number(self) -> u8
-        ensures { result ≡ number_fault_number self }
-    {
-        match self {
-            NumberFault::Wide => 13,
-            NumberFault::CutShort => 11,
-            NumberFault::Padded => 12,
-        }
+impl From<NumberFault> for u8 {
+    ghost from_gives = { λ fault n. n ≡ number_fault_number fault };
+
+    fn from(fault: NumberFault) -> u8 {
+        fault as u8
     }
 }
 
 // How many groups a number takes: one for each seven significant bits begun, and one for zero.
 pub(super) fn group_count(n: u32) -> usize
-    ensures { result ≡ length (number_bytes n) }
+    ensures value { result ≡ length (number_bytes n) }
+    ensures few { result ≤ 5 }
 {
-    let bits = 32 - n.leading_zeros();
-    if bits == 0 {
-        1
-    } else {
-        ((bits - 1) / 7) as usize + 1
-    }
+    let bits = u32::BITS - n.leading_zeros();
+    bits.div_ceil(7).max(1) as usize
 }
 
 // Writes a number at the front; the bytes behind it stay.
@@ -47,8 +40,9 @@ pub(super) fn put_number(n: u32, out: &mut [u8]) -> usize
 {
     let last = group_count(n) - 1;
     let mut rest = n;
-    for i in 0..last {
-        out[i] = (rest % 128 + 128) as u8;
+    let more = &mut out[..last];
+    for group in more.iter_mut() {
+        *group = (rest % 128 + 128) as u8;
         rest /= 128;
     }
     out[last] = rest as u8;
@@ -78,7 +72,8 @@ fn read_groups(bytes: &[u8], more: u8, several: bool) -> Result<(u32, &[u8]), Nu
     Ok((b - 128 + 128 * n, behind))
 }
 
-// The number at the front, and the bytes behind it. Most numbers of a log have one or two groups.
+// The number at the front, and the bytes behind it. Numbers of one or two groups, which are most of a log's, are read here:
+// by `read_groups` alone reading took several times as long.
 pub fn read_number(bytes: &[u8]) -> Result<(u32, &[u8]), NumberFault>
     ensures value { of_ok (λ p. (p.0, p.1.now)) result ≡ first_number bytes.now }
 {

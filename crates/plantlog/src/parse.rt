@@ -1,28 +1,29 @@
 // A body taken apart by its kind byte.
 ghost use Rattle.std.specs.Prelude.{◌≡◌, ℕ, ◌-◌, ◌≤◌, length};
 ghost use Rattle.plantlog.specs.Results.{of_ok};
-ghost use Rattle.plantlog.specs.Format.{Table as InTable, Alternative as InAlternative, Rearm as InRearm};
-ghost use Rattle.plantlog.specs.FirstRecord.{table_fields, setup_fields, count_fields, end_fields, ended, body_fields};
+ghost use Rattle.plantlog.specs.Format.{Rearm as InRearm};
+ghost use Rattle.plantlog.specs.FirstRecord.{setup_fields, count_fields, end_fields, ended, body_fields};
 ghost use Rattle.plantlog.specs.Views.{parsed_said};
 
 use super::fault::RecordFault;
-use super::field::{any_field, bettor_field, field_within, no_more, rule_field};
-use super::record::{Parsed, Record, Setup};
-use super::weights::{alternative_table, null_table};
+use super::field::FieldsLeft;
+use super::record::{BettorChoice, LARGEST_THRESHOLD, Parsed, Record, RuleChoice, Setup};
+use super::weights::table;
 use edetector::value::ValueFault;
 
+#[tactic(auto, unfolding(crate::specs::FirstRecord::setup_fields, crate::specs::FirstRecord::field))]
 fn setup_fields(bytes: &[u8]) -> Result<Parsed, RecordFault>
     ensures { of_ok parsed_said result ≡ setup_fields bytes.now }
 {
-    let (threshold, rest) = field_within(
-        bytes,
+    let mut fields = FieldsLeft { bytes };
+    let threshold = fields.within(
         1,
-        4096,
+        LARGEST_THRESHOLD,
         RecordFault::Value(ValueFault::Threshold),
     )?;
-    let (rule, rest) = rule_field(rest)?;
-    let (bettor, rest) = bettor_field(rest)?;
-    no_more(rest)?;
+    let rule = RuleChoice::try_from(fields.number()?)?;
+    let bettor = BettorChoice::try_from(fields.number()?)?;
+    fields.end()?;
     Ok(Parsed::Other(Record::Setup(Setup {
         threshold,
         rule,
@@ -30,55 +31,45 @@ fn setup_fields(bytes: &[u8]) -> Result<Parsed, RecordFault>
     })))
 }
 
+#[tactic(auto, unfolding(crate::specs::FirstRecord::count_fields))]
 fn count_fields(bytes: &[u8]) -> Result<Parsed, RecordFault>
     ensures { of_ok parsed_said result ≡ count_fields bytes.now }
 {
-    let (day, rest) = any_field(bytes)?;
-    let (count, rest) = any_field(rest)?;
-    no_more(rest)?;
+    let mut fields = FieldsLeft { bytes };
+    let day = fields.number()?;
+    let count = fields.number()?;
+    fields.end()?;
     Ok(Parsed::Count { day, count })
 }
 
+#[tactic(auto, unfolding(crate::specs::FirstRecord::end_fields))]
 fn end_fields(bytes: &[u8]) -> Result<Parsed, RecordFault>
     ensures { of_ok parsed_said result ≡ end_fields bytes.now }
 {
-    let (counts, rest) = any_field(bytes)?;
-    no_more(rest)?;
+    let mut fields = FieldsLeft { bytes };
+    let counts = fields.number()?;
+    fields.end()?;
     Ok(Parsed::Other(Record::End(counts)))
-}
-
-fn table_fields(bytes: &[u8]) -> Result<Parsed, RecordFault>
-    ensures { of_ok parsed_said result ≡ of_ok InTable (table_fields 1 bytes.now) }
-{
-    let table = null_table(bytes)?;
-    Ok(Parsed::Other(Record::Table(table)))
-}
-
-fn alternative_fields(bytes: &[u8]) -> Result<Parsed, RecordFault>
-    ensures { of_ok parsed_said result ≡ of_ok InAlternative (table_fields 0 bytes.now) }
-{
-    let table = alternative_table(bytes)?;
-    Ok(Parsed::Other(Record::Alternative(table)))
 }
 
 fn rearm_fields(bytes: &[u8]) -> Result<Parsed, RecordFault>
     ensures { of_ok parsed_said result ≡ ended InRearm bytes.now }
 {
-    no_more(bytes)?;
+    FieldsLeft { bytes }.end()?;
     Ok(Parsed::Other(Record::Rearm))
 }
 
+// Kind bytes are told apart here and nowhere else: an enum in between would be made by this same match.
 pub(super) fn parse(body: &[u8]) -> Result<Parsed, RecordFault>
     ensures { of_ok parsed_said result ≡ body_fields body.now }
 {
     match body {
-        [1, rest @ ..] => table_fields(rest),
+        [1, rest @ ..] => Ok(Parsed::Other(Record::Table(table(rest)?))),
         [2, rest @ ..] => setup_fields(rest),
-        [3, rest @ ..] => alternative_fields(rest),
+        [3, rest @ ..] => Ok(Parsed::Other(Record::Alternative(table(rest)?))),
         [4, rest @ ..] => count_fields(rest),
         [5, rest @ ..] => rearm_fields(rest),
         [6, rest @ ..] => end_fields(rest),
-        [_, ..] => Err(RecordFault::UnknownKind),
-        [] => Err(RecordFault::UnknownKind),
+        _ => Err(RecordFault::UnknownKind),
     }
 }

@@ -17,7 +17,8 @@ pub struct Reader<'a> {
     ghost passed: { records ≤ place },
 }
 
-// A slip to which no count was shown, and why.
+// A slip to which no count was shown, and why. As one type with the monitor's `Refused` each mention of either would have
+// to name the fault.
 pub struct Unshown {
     pub fault: RecordFault,
     pub slip: OpenSlip,

@@ -1,44 +1,58 @@
 // Records written at the front of a buffer, one call for each kind. Each gives the record's length; the bytes behind it
 // stay, and a refusal writes nothing.
+// One call over an enum of what to write would hold a lent slice in one variant, and its callers could not be proved.
 ghost use Rattle.std.specs.Prelude.{◌≡◌, ℕ, ◌+◌, ◌-◌, ◌≤◌, List, [], ◌∷◌, length};
 ghost use Rattle.edetector.specs.Units.{weights_in};
-ghost use Rattle.plantlog.specs.Format.{Table as InTable, Setup as InSetup, Alternative as InAlternative, Count as InCount, Rearm as InRearm, End as InEnd};
-ghost use Rattle.plantlog.specs.Written.{fields_judged, Wrote};
+ghost use Rattle.plantlog.specs.Format.{Fields, Table as InTable, Setup as InSetup, Alternative as InAlternative, Count as InCount, Rearm as InRearm, End as InEnd};
+ghost use Rattle.plantlog.specs.Written.{fields_judged, SaysTable, Wrote};
 
 use self::numbers::table_numbers;
-use self::put::put_record;
+use self::put::{MOST_NUMBERS, put_record};
 use super::fault::RecordFault;
-use edetector::table::{AlternativeTable, NullTable};
+use super::record::{BettorChoice, Kind, LARGEST_THRESHOLD, RuleChoice};
+use edetector::table::Table;
 use edetector::units::Weight;
 use edetector::value::ValueFault;
 
 mod numbers;
 mod put;
 
+// A record of the weights of a table, which are at least `LEAST`.
+fn write_weights<const LEAST: u32>(
+    kind: Kind,
+    weights: &[Weight],
+    out: &mut [u8],
+) -> Result<usize, RecordFault>
+    ghost said: { Fields }
+    requires { SaysTable kind LEAST (weights_in weights.now) said }
+    ensures { Wrote said out.old result out.new }
+{
+    let _ = Table::<LEAST>::new(weights)?;
+    // a fixed array, since nothing here takes memory
+    let mut list = [0; MOST_NUMBERS];
+    let numbers = &mut list[..weights.len() + 1];
+    table_numbers(weights, numbers);
+    put_record(kind, numbers, out)
+}
+
 pub fn write_table(weights: &[Weight], out: &mut [u8]) -> Result<usize, RecordFault>
     ensures { Wrote (InTable (weights_in weights.now)) out.old result out.new }
 {
-    let _table = NullTable::new(weights)?;
-    let list = table_numbers(weights);
-    put_record(1, &list[0..weights.len() + 1], out)
+    write_weights::<1>(Kind::Table, weights, out)
 }
 
 fn judge_setup(threshold: u32, rule: u32, bettor: u32) -> Result<(), RecordFault>
     ensures { result ≡ fields_judged (InSetup threshold rule bettor) }
 {
-    if threshold < 1 || threshold > 4096 {
+    if !(1..=LARGEST_THRESHOLD).contains(&threshold) {
         return Err(RecordFault::Value(ValueFault::Threshold));
     }
-    if rule < 1 || rule > 2 {
-        return Err(RecordFault::UnknownChoice);
-    }
-    if bettor < 1 || bettor > 3 {
-        return Err(RecordFault::UnknownChoice);
-    }
+    let _ = RuleChoice::try_from(rule)?;
+    let _ = BettorChoice::try_from(bettor)?;
     Ok(())
 }
 
-// Rule and bettor are the numbers that the log has for them.
+// Rule and bettor are the numbers that the log has for them and not the two enums, which would ask callers for sound ones.
 pub fn write_setup(
     threshold: u32,
     rule: u32,
@@ -48,32 +62,30 @@ pub fn write_setup(
     ensures { Wrote (InSetup threshold rule bettor) out.old result out.new }
 {
     judge_setup(threshold, rule, bettor)?;
-    put_record(2, &[threshold, rule, bettor], out)
+    put_record(Kind::Setup, &[threshold, rule, bettor], out)
 }
 
 pub fn write_alternative(weights: &[Weight], out: &mut [u8]) -> Result<usize, RecordFault>
     ensures { Wrote (InAlternative (weights_in weights.now)) out.old result out.new }
 {
-    let _table = AlternativeTable::new(weights)?;
-    let list = table_numbers(weights);
-    put_record(3, &list[0..weights.len() + 1], out)
+    write_weights::<0>(Kind::Alternative, weights, out)
 }
 
 pub fn write_count(day: u32, count: u32, out: &mut [u8]) -> Result<usize, RecordFault>
     ensures { Wrote (InCount day count) out.old result out.new }
 {
-    put_record(4, &[day, count], out)
+    put_record(Kind::Count(day), &[day, count], out)
 }
 
 pub fn write_rearm(out: &mut [u8]) -> Result<usize, RecordFault>
     ensures { Wrote InRearm out.old result out.new }
 {
-    put_record(5, &[], out)
+    put_record(Kind::Rearm, &[], out)
 }
 
 // `counts` is how many count records the log has.
 pub fn write_end(counts: u32, out: &mut [u8]) -> Result<usize, RecordFault>
     ensures { Wrote (InEnd counts) out.old result out.new }
 {
-    put_record(6, &[counts], out)
+    put_record(Kind::End, &[counts], out)
 }

@@ -27,8 +27,8 @@ fn print_record(rt: &HostRuntime, record: Record) -> io::Result<()> {
         Record::Setup(setup) => println!(rt;
             "setup threshold {} rule {} bettor {}",
             setup.threshold,
-            setup.rule.number(),
-            setup.bettor.number()
+            u32::from(setup.rule),
+            u32::from(setup.bettor)
         ),
         Record::Alternative(_) => println!(rt; "alternative"),
         Record::Rearm => println!(rt; "rearm"),
@@ -37,7 +37,7 @@ fn print_record(rt: &HostRuntime, record: Record) -> io::Result<()> {
 }
 
 fn print_fault(rt: &HostRuntime, fault: RecordFault) -> io::Result<()> {
-    println!(rt; "fault {}", fault.number())
+    println!(rt; "fault {}", u8::from(fault))
 }
 
 // Prints the next record; a count's number stays unseen.

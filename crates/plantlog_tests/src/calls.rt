@@ -1,64 +1,26 @@
-// What the calls answer, as numbers: 0 for accepted, else the refusal.
+// The calls on a log or a buffer of a test, with each refusal told by its number.
 use plantlog::fault::RecordFault;
 use plantlog::reader::Reader;
-use plantlog::record::Kind;
+use plantlog::record::{Kind, Record};
 
-pub(super) fn read_in(log: &[u8], buf: &mut [u8]) -> u8 {
-    let mut reader = Reader::new(log);
-    match reader.read(buf) {
-        Ok(_) => 0,
-        Err(fault) => fault.number(),
-    }
+// The same answer with the number of a refusal.
+pub(super) fn numbered<T: Drop, E: Into<u8>>(answer: Result<T, E>) -> Result<T, u8> {
+    answer.map_err(|fault| fault.into())
 }
 
-pub(super) fn read_answer(log: &[u8]) -> u8 {
-    let mut buf = [7u8; 63];
-    read_in(log, &mut buf)
+// The number of the refusal, if it is one.
+pub(super) fn refusal<T: Drop, E: Into<u8>>(answer: Result<T, E>) -> Option<u8> {
+    numbered(answer).err()
 }
 
-pub(super) fn pass_answer(log: &[u8]) -> u8 {
-    let mut buf = [7u8; 63];
-    let mut reader = Reader::new(log);
-    match reader.pass_over(&mut buf) {
-        Ok(()) => 0,
-        Err(fault) => fault.number(),
-    }
+pub(super) fn read(log: &[u8]) -> Result<Record, RecordFault> {
+    Reader::new(log).read(&mut [7u8; 63])
 }
 
-// The kind byte asked for, 0 where none is left, else 100 and the refusal.
-pub(super) fn ask_answer(log: &[u8]) -> u8 {
-    let mut buf = [7u8; 63];
-    let mut reader = Reader::new(log);
-    match reader.ask(&mut buf) {
-        Ok(Some(kind)) => kind.byte(),
-        Ok(None) => 0,
-        Err(fault) => fault.number().wrapping_add(100),
-    }
+pub(super) fn pass_over(log: &[u8]) -> Result<(), RecordFault> {
+    Reader::new(log).pass_over(&mut [7u8; 63])
 }
 
-// The day that asking tells.
-pub(super) fn day_asked(log: &[u8]) -> u32 {
-    let mut buf = [7u8; 63];
-    let mut reader = Reader::new(log);
-    match reader.ask(&mut buf) {
-        Ok(Some(Kind::Count(day))) => day,
-        _ => 0,
-    }
-}
-
-// The length written, else 100 and the refusal.
-pub(super) fn length_of(answer: Result<usize, RecordFault>) -> usize {
-    match answer {
-        Ok(n) => n,
-        Err(fault) => 100 + fault.number() as usize,
-    }
-}
-
-pub(super) fn all_zero(bytes: &[u8]) -> bool {
-    for b in bytes {
-        if *b != 0 {
-            return false;
-        }
-    }
-    true
+pub(super) fn ask(log: &[u8]) -> Result<Option<Kind>, RecordFault> {
+    Reader::new(log).ask(&mut [7u8; 63])
 }

@@ -1,4 +1,5 @@
 // A log written record by record and read back.
+use plantlog::fault::RecordFault;
 use plantlog::reader::Reader;
 use plantlog::record::Record;
 
@@ -13,18 +14,14 @@ fn number_in(record: Record) -> u32 {
     }
 }
 
-// The next record read, or 1,000 and the refusal.
-fn said(reader: &mut Reader) -> u32 {
-    let mut buf = [7u8; 63];
-    match reader.read(&mut buf) {
-        Ok(record) => number_in(record),
-        Err(fault) => 1000 + fault.number() as u32,
-    }
+// What the next record says, or its refusal.
+fn said(reader: &mut Reader) -> Result<u32, RecordFault> {
+    reader.read(&mut [7u8; 63]).map(number_in)
 }
 
 #[cfg(test)]
 mod tests {
-    use super::super::calls::*;
+    use super::super::calls::numbered;
     use super::*;
     use edetector::units::Weight;
     use plantlog::writer::{
@@ -35,27 +32,27 @@ mod tests {
     fn written(rt: HostRuntime) {
         let mut table = [0u8; 5];
         assert_eq!(rt;
-            length_of(write_table(&[Weight(3), Weight(1)], &mut table)),
-            5
+            numbered(write_table(&[Weight(3), Weight(1)], &mut table)),
+            Ok(5)
         );
         assert!(rt; table == [4, 1, 2, 3, 1]);
         let mut setup = [0u8; 5];
-        assert_eq!(rt; length_of(write_setup(4, 1, 1, &mut setup)), 5);
+        assert_eq!(rt; numbered(write_setup(4, 1, 1, &mut setup)), Ok(5));
         assert!(rt; setup == [4, 2, 4, 1, 1]);
         let mut alternative = [0u8; 5];
         assert_eq!(rt;
-            length_of(write_alternative(&[Weight(1), Weight(1)], &mut alternative)),
-            5
+            numbered(write_alternative(&[Weight(1), Weight(1)], &mut alternative)),
+            Ok(5)
         );
         assert!(rt; alternative == [4, 3, 2, 1, 1]);
         let mut count = [0u8; 5];
-        assert_eq!(rt; length_of(write_count(300, 0, &mut count)), 5);
+        assert_eq!(rt; numbered(write_count(300, 0, &mut count)), Ok(5));
         assert!(rt; count == [4, 4, 0xac, 2, 0]);
         let mut rearm = [0u8; 2];
-        assert_eq!(rt; length_of(write_rearm(&mut rearm)), 2);
+        assert_eq!(rt; numbered(write_rearm(&mut rearm)), Ok(2));
         assert!(rt; rearm == [1, 5]);
         let mut end = [0u8; 3];
-        assert_eq!(rt; length_of(write_end(1, &mut end)), 3);
+        assert_eq!(rt; numbered(write_end(1, &mut end)), Ok(3));
         assert!(rt; end == [2, 6, 1]);
     }
 
@@ -66,16 +63,16 @@ mod tests {
         ];
         let mut buf = [7u8; 63];
         let mut reader = Reader::new(&log);
-        assert_eq!(rt; said(&mut reader), 4);
-        assert_eq!(rt; said(&mut reader), 4);
-        assert_eq!(rt; said(&mut reader), 0);
-        assert_eq!(rt; said(&mut reader), 1028);
+        assert_eq!(rt; said(&mut reader), Ok(4));
+        assert_eq!(rt; said(&mut reader), Ok(4));
+        assert_eq!(rt; said(&mut reader), Ok(0));
+        assert_eq!(rt; numbered(said(&mut reader)), Err(28));
         assert_eq!(rt; reader.place(), 15);
         assert!(rt; reader.pass_over(&mut buf).is_ok());
         assert_eq!(rt; reader.place(), 20);
-        assert_eq!(rt; said(&mut reader), 0);
-        assert_eq!(rt; said(&mut reader), 1);
+        assert_eq!(rt; said(&mut reader), Ok(0));
+        assert_eq!(rt; said(&mut reader), Ok(1));
         assert_eq!(rt; reader.records(), 6);
-        assert_eq!(rt; said(&mut reader), 1045);
+        assert_eq!(rt; numbered(said(&mut reader)), Err(45));
     }
 }

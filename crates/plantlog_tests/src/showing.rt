@@ -3,22 +3,22 @@ use edetector::bettor::Bettor;
 use edetector::fault::MonitorFault;
 use edetector::monitor::Monitor;
 use edetector::rule::RestartRule;
+use plantlog::fault::RecordFault;
 use plantlog::reader::{Reader, Unshown};
 
-// Stakes and has the next record shown: 0 where the slip was settled, else the refusal, with the slip withdrawn.
-fn show_answer<B: Bettor, R: RestartRule>(
+// Stakes and has the next record shown: whether it rang, or the refusal, with the slip withdrawn.
+fn shown<B: Bettor, R: RestartRule>(
     monitor: &mut Monitor<B, R>,
     reader: &mut Reader,
-) -> Result<u8, MonitorFault> {
-    let mut buf = [7u8; 63];
+) -> Result<Result<bool, RecordFault>, MonitorFault> {
     let slip = monitor.stake()?;
-    match reader.show(slip, &mut buf) {
+    match reader.show(slip, &mut [7u8; 63]) {
         Ok(shown) => match monitor.settle(shown) {
-            Ok(_) => Ok(0),
+            Ok(rang) => Ok(Ok(rang)),
             Err(_refused) => unreachable(),
         },
         Err(Unshown { fault, slip }) => match monitor.withdraw(slip) {
-            Ok(()) => Ok(fault.number()),
+            Ok(()) => Ok(Err(fault)),
             Err(_refused) => unreachable(),
         },
     }
@@ -26,50 +26,36 @@ fn show_answer<B: Bettor, R: RestartRule>(
 
 #[cfg(test)]
 mod tests {
+    use super::super::calls::numbered;
     use super::*;
     use edetector::fixed::Fixed;
     use edetector::rules::Page;
-    use edetector::table::{AlternativeTable, NullTable};
-    use edetector::units::Weight;
     use edetector::value::ValueFault;
+    use edetector_tests::example_bettor;
     use std::test::Fail;
 
-    // The fixed bettor with the null weights 3, 1 and the alternative 1, 1.
-    fn example_bettor() -> Result<Fixed, ValueFault> {
-        let null = NullTable::new(&[Weight(3), Weight(1)])?;
-        let alternative = AlternativeTable::new(&[Weight(1), Weight(1)])?;
-        Fixed::new(null, alternative)
+    fn page_monitor() -> Result<Monitor<Fixed, Page>, ValueFault> {
+        let bettor = example_bettor()?;
+        Monitor::new(bettor, Page, 4, 1).map_err(|unmade| unmade.fault)
     }
 
-    fn page_monitor() -> Result<Monitor<Fixed, Page>, u8> {
-        match example_bettor() {
-            Ok(bettor) => match Monitor::new(bettor, Page, 4, 1) {
-                Ok(monitor) => Ok(monitor),
-                Err(unmade) => Err(unmade.fault.number()),
-            },
-            Err(fault) => Err(fault.number()),
-        }
-    }
-
-    // The answer for a log's first record, or 99 where nothing was staked.
-    fn first_shown(log: &[u8]) -> u8 {
-        let Ok(mut monitor) = page_monitor() else {
-            return 99;
-        };
-        let mut reader = Reader::new(log);
-        match show_answer(&mut monitor, &mut reader) {
-            Ok(number) => number,
-            Err(_) => 99,
-        }
+    // The answer for a log's first record.
+    fn first_shown(log: &[u8]) -> Result<Result<bool, RecordFault>, Fail> {
+        let mut monitor = page_monitor()?;
+        Ok(shown(&mut monitor, &mut Reader::new(log))?)
     }
 
     #[test]
-    fn shown_or_refused(rt: HostRuntime) {
-        assert_eq!(rt; first_shown(&[0x03, 0x04, 0x01, 0x00]), 0);
-        assert_eq!(rt; first_shown(&[0x01, 0x05]), 28);
-        assert_eq!(rt; first_shown(&[0x02, 0x05, 0x00]), 24);
-        assert_eq!(rt; first_shown(&[0x02, 0x04, 0x01]), 11);
-        assert_eq!(rt; first_shown(&[]), 45);
+    fn shown_or_refused(rt: HostRuntime) -> Result<(), Fail> {
+        assert_eq!(rt;
+            numbered(first_shown(&[0x03, 0x04, 0x01, 0x00])?),
+            Ok(false)
+        );
+        assert_eq!(rt; numbered(first_shown(&[0x01, 0x05])?), Err(28));
+        assert_eq!(rt; numbered(first_shown(&[0x02, 0x05, 0x00])?), Err(24));
+        assert_eq!(rt; numbered(first_shown(&[0x02, 0x04, 0x01])?), Err(11));
+        assert_eq!(rt; numbered(first_shown(&[])?), Err(45));
+        Ok(())
     }
 
     // The count shown is the record's second number: a class 1 makes the ledger two bets.
@@ -77,7 +63,7 @@ mod tests {
     fn count_settled(rt: HostRuntime) -> Result<(), Fail> {
         let mut monitor = page_monitor()?;
         let mut reader = Reader::new(&[0x03, 0x04, 0x05, 0x01, 0x01, 0x05]);
-        assert!(rt; show_answer(&mut monitor, &mut reader).is_ok());
+        assert!(rt; shown(&mut monitor, &mut reader)?.is_ok());
         assert_eq!(rt; monitor.read().ledger.parts(), 2097152);
         assert_eq!(rt; reader.place(), 4);
         assert_eq!(rt; reader.records(), 1);

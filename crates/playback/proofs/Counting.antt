@@ -1,5 +1,5 @@
 -- A count record on plain data.
-use Rattle.std.proofs.Common.{◌≡◌, ℕ, ◌+◌, ◌≤◌, Bool, true, false, cond, eqb, ltb, List, [], ◌∷◌, map, length, Ok, Err, Result, refl, ap, ◌∙◌, arith}
+use Rattle.std.proofs.Common.{◌≡◌, ℕ, ◌+◌, Bool, true, false, cond, eqb, ltb, List, [], ◌∷◌, map, length, Ok, Err, Result, refl, ap, ◌∙◌, arith}
 use Rattle.std.proofs.lemmas.Bool.Decides.{nat_tests}
 use Rattle.edetector.specs.declared.state.State.{State}
 use Rattle.edetector.specs.declared.state.State.TheVariants.{Armed, Staked, Rung}
@@ -11,21 +11,18 @@ use Rattle.edetector.specs.Bettors.{Strategy}
 use Rattle.edetector.specs.Ledger.{Terms, Standing, outcome, rings, staked, settled}
 use Rattle.edetector.specs.View.{standing}
 use Rattle.playback.specs.declared.stop.ReplayFault.{ReplayFault}
-use Rattle.playback.specs.declared.stop.ReplayFault.TheVariants.{Book}
-use Rattle.daybook.specs.declared.fault.BookFault.TheVariants.{Full}
 use Rattle.daybook.specs.declared.entry.unwatched.Unwatched.{Unwatched}
-use Rattle.playback.specs.declared.progress.Progress.{Progress}
 use Rattle.daybook.specs.Books.{above}
 use Rattle.daybook.specs.Entries.{AlarmView}
-use Rattle.playback.specs.Held.{noted_if}
+use Rattle.playback.specs.Rest.{Rest, behind_count, moved_if}
 use Rattle.playback.specs.Rising.{above_in}
-use Rattle.playback.specs.Watch.{Watch, Places, done, faulted, round_done, watched_count, round, rung, settled_slip, shown, watched, full, count_read}
+use Rattle.playback.specs.Watch.{Watch, Places, done, round_done, watched_count, round, rung, settled_slip, shown, watched, full, count_read}
 
 -- a refusal differs from a taken round
 refused_not_taken : (f : ReplayFault) (s s' : Standing) (ents ents' : List AlarmView) → round (Err f) s ents ≡ round (Ok tt) s' ents' → ⊥
 refused_not_taken f s s' ents ents' e =
     let told : ◌≡◌ {A = Result (Unit {0}) ReplayFault} (Err f) (Ok tt) = ap (λ r. r.answer) e in
-    let z : ◌≡◌ {A = ℕ} 0 1 = cc in omega arith
+    cc
 
 abbrev Same : Standing → List AlarmView → Standing → List AlarmView → Type 0
 Same s ents s' ents' = (s' ≡ s) × (ents' ≡ ents)
@@ -58,44 +55,32 @@ pub watched_refused : (t : Terms) (s : Standing) (ents : List AlarmView) (day co
     round (Err f) s' ents' ≡ watched t s ents day count → Same s ents s' ents'
 watched_refused t s ents day count f s' ents' e = in_state t s.state s.ledger s.rounds s.alarms s.row s.play ents day count f s' ents' e
 
--- while the monitor is not rung, the alarm book must have a place
-pub alarms_full : (t : Terms) (p : Places) (w : Watch) (number day count : ℕ) (st : State) → st ≡ w.standing.state → (st ≡ Rung → ⊥) → above w.last day ≡ true → full p.alarms (length w.alarms) ≡ true →
-    faulted w (Book Full) ≡ count_read t p w number day count
-alarms_full t p w number day count Armed e calm later none = rw (later, ← e, none) refl
-alarms_full t p w number day count Staked e calm later none = rw (later, ← e, none) refl
-alarms_full t p w number day count Rung e calm later none = absurd (calm refl)
-
 goes_to_round : (t : Terms) (p : Places) (w : Watch) (number day count : ℕ) (st : State) → st ≡ w.standing.state → (st ≡ Rung → ⊥) → above w.last day ≡ true → full p.alarms (length w.alarms) ≡ false →
     watched_count t w day count ≡ count_read t p w number day count
 goes_to_round t p w number day count Armed e calm later room = rw (later, ← e, room) refl
 goes_to_round t p w number day count Staked e calm later room = rw (later, ← e, room) refl
 goes_to_round t p w number day count Rung e calm later room = absurd (calm refl)
 
-abbrev watch : Standing → Progress → List AlarmView → List Unwatched → Watch
-watch s pr ents us = record { standing = s; last = pr.last; counts = pr.counts; alarms = ents; unwatched = us }
+abbrev watch : Standing → Rest → List AlarmView → List Unwatched → Watch
+watch s rest ents us = record { standing = s; last = rest.last; counts = rest.counts; alarms = ents; unwatched = us }
 
-round_ends : (t : Terms) (s : Standing) (pr : Progress) (ents : List AlarmView) (us : List Unwatched) (day count : ℕ) (r : Result (Unit {0}) ReplayFault) (s' : Standing) (ents' : List AlarmView) (pr' : Progress) →
-    round r s' ents' ≡ watched t s ents day count → pr' ≡ noted_if r day pr → done r (watch s' pr' ents' us) ≡ watched_count t (watch s pr ents us) day count
-round_ends t s pr ents us day count (Ok tt) s' ents' pr' e noted =
-    ap (λ q. done (Ok tt) (watch s' q ents' us)) noted ∙ ap (λ x. round_done (watch s pr ents us) day x.answer x.standing x.alarms) e
-round_ends t s pr ents us day count (Err f) s' ents' pr' e noted =
+round_ends : (t : Terms) (s : Standing) (rest : Rest) (ents : List AlarmView) (us : List Unwatched) (day count : ℕ) (r : Result (Unit {0}) ReplayFault) (s' : Standing) (ents' : List AlarmView) (rest' : Rest) →
+    round r s' ents' ≡ watched t s ents day count → rest' ≡ moved_if r (behind_count day rest) rest → done r (watch s' rest' ents' us) ≡ watched_count t (watch s rest ents us) day count
+round_ends t s rest ents us day count (Ok tt) s' ents' rest' e moved =
+    ap (λ x. done (Ok tt) (watch s' x ents' us)) moved ∙ ap (λ x. round_done (watch s rest ents us) day x.answer x.standing x.alarms) e
+round_ends t s rest ents us day count (Err f) s' ents' rest' e moved =
     let same = watched_refused t s ents day count f s' ents' e in
-    let back : watch s' pr' ents' us ≡ watch s pr ents us = rw (noted, same.0, same.1) refl in
-    ap (done (Err f)) back ∙ ap (λ x. round_done (watch s pr ents us) day x.answer x.standing x.alarms) e
+    let back : watch s' rest' ents' us ≡ watch s rest ents us = rw (moved, same.0, same.1) refl in
+    ap (done (Err f)) back ∙ ap (λ x. round_done (watch s rest ents us) day x.answer x.standing x.alarms) e
 
-pub armed_done : (t : Terms) (p : Places) (s : Standing) (pr : Progress) (ents : List AlarmView) (us : List Unwatched) (number day count : ℕ) (st : State) (r : Result (Unit {0}) ReplayFault) (s' : Standing) (ents' : List AlarmView) (pr' : Progress) →
-    st ≡ s.state → (st ≡ Rung → ⊥) → above pr.last day ≡ true → full p.alarms (length ents) ≡ false →
-    round r s' ents' ≡ watched t s ents day count → pr' ≡ noted_if r day pr → done r (watch s' pr' ents' us) ≡ count_read t p (watch s pr ents us) number day count
-armed_done t p s pr ents us number day count st r s' ents' pr' at calm later room e noted =
-    round_ends t s pr ents us day count r s' ents' pr' e noted ∙ goes_to_round t p (watch s pr ents us) number day count st at calm later room
+pub armed_done : (t : Terms) (p : Places) (s : Standing) (rest : Rest) (ents : List AlarmView) (us : List Unwatched) (number day count : ℕ) (st : State) (r : Result (Unit {0}) ReplayFault) (s' : Standing) (ents' : List AlarmView) (rest' : Rest) →
+    st ≡ s.state → (st ≡ Rung → ⊥) → above rest.last day ≡ true → full p.alarms (length ents) ≡ false →
+    round r s' ents' ≡ watched t s ents day count → rest' ≡ moved_if r (behind_count day rest) rest → done r (watch s' rest' ents' us) ≡ count_read t p (watch s rest ents us) number day count
+armed_done t p s rest ents us number day count st r s' ents' rest' at calm later room e moved =
+    round_ends t s rest ents us day count r s' ents' rest' e moved ∙ goes_to_round t p (watch s rest ents us) number day count st at calm later room
 
 -- an entry's day is the day of what is read of it
 pub above_map : {X Y : Type 0} (f : X → Y) (key : Y → ℕ) (xs : List X) (d : ℕ) → above_in key (map f xs) d ≡ above_in (λ x. key (f x)) xs d
 above_map f key [] d = refl
 above_map f key (x ∷ []) d = refl
 above_map f key (x ∷ y ∷ xs) d = above_map f key (y ∷ xs) d
-
--- at most one count more
-pub noted_more : (r : Result (Unit {0}) ReplayFault) (day : ℕ) (pr pr' : Progress) → pr' ≡ noted_if r day pr → pr'.counts ≤ pr.counts + 1
-noted_more (Ok u) day pr pr' e = omega (arith, ap (λ q. q.counts) e)
-noted_more (Err f) day pr pr' e = omega (arith, ap (λ q. q.counts) e)

@@ -124,7 +124,7 @@ module _ (t : Terms) (p : Places) (n : ℕ) (rest : Stream) (ih : (at : Spot) (w
     armed_course false = by_rounds (ltb r 1000000) refl
 
   staked_course : (w : Watch) (x : Result (Unit {0}) ReplayFault) (s : Standing) (ents : List AlarmView) (f : ReplayFault) → x ≡ Err f → (b : Bool) → On w (cond b (faulted w (Book Full)) (round_done w day x s ents))
-  staked_course w (Ok u) s ents f e b = let z : ◌≡◌ {A = ℕ} 0 1 = cc in absurd (omega arith)
+  staked_course w (Ok u) s ents f e b = cc
   staked_course w (Err g) s ents f e true = still t (Next (Count day count) n rest) at w (Book Full)
   staked_course w (Err g) s ents f e false = still t (Next (Count day count) n rest) at w g
 

@@ -2,11 +2,10 @@ pub mod Appends
 pub mod Counting
 pub mod Courses
 pub mod Emptied
-pub mod Ends
 pub mod Fronts
+pub mod Listed
 pub mod Opens
 pub mod Reckoned
 pub mod Rises
-pub mod Rounds
 pub mod Steps
 pub mod Streams

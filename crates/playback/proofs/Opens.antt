@@ -1,112 +1,133 @@
 -- The header on plain data.
-use Rattle.std.proofs.Common.{◌≡◌, ℕ, ◌+◌, true, false, eqb, List, [], length, drop, Ok, Err, Result, sym, refl, ap, ◌∙◌, ap₂, arith}
-use Rattle.std.proofs.lemmas.List.{drop-drop}
-use Rattle.std.proofs.lemmas.Bool.{eq-eqb}
-use Rattle.edetector.specs.Bettors.{Strategy, fixed, adaptive, mixture, no_tally}
+use Rattle.std.proofs.Common.{◌≡◌, ℕ, Bool, true, false, cond, eqb, List, [], length, Ok, Err, Result, sym, refl, ap, ◌∙◌, ap₂}
+use Rattle.edetector.specs.declared.value.ValueFault.TheVariants.{Alternative as UnlikeClasses}
 use Rattle.edetector.specs.declared.fixed.Fixed.{Fixed as FixedBettor}
 use Rattle.edetector.specs.declared.adaptive.Adaptive.{Adaptive as AdaptiveBettor}
 use Rattle.edetector.specs.declared.mixture.Mixture.{Mixture as MixtureBettor}
-use Rattle.edetector.specs.declared.table.NullTable.{NullTable}
-use Rattle.edetector.specs.declared.table.AlternativeTable.{AlternativeTable}
+use Rattle.edetector.specs.declared.table.Table.{Table}
 use Rattle.edetector.specs.Tallies.{tally_of}
 use Rattle.edetector.specs.Weights.{null_weights, alternative_weights}
-use Rattle.plantlog.specs.declared.record.BettorChoice.{BettorChoice}
-use Rattle.plantlog.specs.declared.record.BettorChoice.TheVariants.{Fixed, Adaptive, Mixture}
-use Rattle.plantlog.specs.Choices.{bettor_number}
-use Rattle.plantlog.specs.declared.record.Setup.{Setup as SetupValue}
-use Rattle.daybook.specs.declared.book.Book.{Book}
-use Rattle.daybook.specs.declared.entry.alarm.Alarm.{Alarm}
-use Rattle.daybook.specs.declared.entry.unwatched.Unwatched.{Unwatched}
-use Rattle.daybook.specs.Books.{entries_of}
-use Rattle.playback.specs.declared.report.Report.{Report}
-use Rattle.playback.specs.declared.report.Report.TheVariants.{Unmade as UnmadeReport}
-use Rattle.playback.specs.Told.{replay_told}
+use Rattle.edetector.specs.Bettors.{Strategy, fixed, adaptive, mixture, no_tally}
 use Rattle.plantlog.specs.Results.{and_then}
 use Rattle.plantlog.specs.Format.{Fields}
-use Rattle.plantlog.specs.Calls.{span}
-use Rattle.plantlog.specs.Position.{Position}
+use Rattle.playback.specs.declared.books.Books.{Books}
+use Rattle.playback.specs.declared.report.Run.{Run}
+use Rattle.playback.specs.declared.stop.Fault.{Fault}
 use Rattle.playback.specs.declared.stop.ReplayFault.{ReplayFault}
-use Rattle.playback.specs.Front.{Settings, settings_of, next_fields, table_next, setup_next, alternative_next, only_table, only_setup, only_alternative}
-use Rattle.playback.specs.Stream.{stream_of}
+use Rattle.playback.specs.declared.stop.ReplayFault.TheVariants.{Value}
+use Rattle.playback.specs.Front.{Settings, next_fields, only_table, only_setup, only_alternative}
+use Rattle.playback.specs.Held.{NothingYet}
+use Rattle.playback.specs.Stream.{Stream, stream_of}
 use Rattle.playback.specs.Watch.{Places}
 use Rattle.playback.specs.Replaying.{Spot, behind}
-use Rattle.playback.specs.Stepping.{spot_of}
-use Rattle.playback.specs.Replayed.{head_of, rest_of, taken_of, monitored, with_alternative, third, after_setup, second, after_table, first, replayed, no_monitor}
+use Rattle.playback.specs.Rest.{Rest, at_spot, behind_record}
+use Rattle.playback.specs.Replayed.{Replay, Unmade, rest_of, taken_of, monitored, with_alternative, as_many, alternative_for, third, after_setup, second, after_table, first, replayed}
+use Rattle.playback.specs.Told.{replay_told}
 use Rattle.playback.proofs.Steps.{streams, head_is}
 
--- the bytes behind a record that was moved past
-pub left_after : (log log' : List ℕ) (pos pos' : Position) → pos' ≡ record { place = pos.place + span (drop pos.place log); records = pos.records + 1 } → log' ≡ log → drop pos'.place log' ≡ drop (span (drop pos.place log)) (drop pos.place log)
-left_after log log' pos pos' to same = ap₂ (λ n l. drop n l) (ap (λ q. q.place) to) same ∙ sym (drop-drop (span (drop pos.place log)) pos.place log)
+-- a fault before there is a monitor, with empty books
+abbrev pub unmade : Fault → Replay
+unmade f = record { said = Unmade f; alarms = []; unwatched = [] }
 
-accepted_by : {X Y : Type 0} (r : Result X ReplayFault) (go : X → Result Y ReplayFault) (y : Y) → and_then r go ≡ Ok y → (x : X) × (r ≡ Ok x)
+pub unmade_told : (r : Result Run Fault) (rest : Rest) (books : Books) (f : Fault) → r ≡ Err f → NothingYet rest books → replay_told r books.alarms.now books.unwatched.now ≡ unmade f
+unmade_told r rest books f is none = let a = none.alarms in let u = none.unwatched in rw (is, a, u) refl
+
+at_spot_ok : {X : Type 0} (at : Spot) (r : Result X ReplayFault) (x : X) → Ok x ≡ at_spot at r → Ok x ≡ r
+at_spot_ok at (Ok y) x e = let same : x ≡ y = cc in ap Ok same
+at_spot_ok at (Err c) x e = cc
+
+-- where a record of the header is refused the replay is over
+at_spot_err : {X : Type 0} (at : Spot) (go : Result X ReplayFault → Replay) → ((c : ReplayFault) → unmade (record { cause = c; «record» = at.number; byte = at.byte }) ≡ go (Err c)) →
+    (r : Result X ReplayFault) (f : Fault) → Err f ≡ at_spot at r → unmade f ≡ go r
+at_spot_err at go stops (Ok y) f e = cc
+at_spot_err at go stops (Err c) f e = let same : f ≡ record { cause = c; «record» = at.number; byte = at.byte } = cc in ap unmade same ∙ stops c
+
+accepted_by : {X Y : Type 0} (r : Result X ReplayFault) (go : X → Result Y ReplayFault) (y : Y) → Ok y ≡ and_then r go → (x : X) × (r ≡ Ok x)
 accepted_by (Ok x) go y e = (x, refl)
-accepted_by (Err f) go y e = let z : ◌≡◌ {A = ℕ} 0 1 = cc in absurd (omega arith)
+accepted_by (Err f) go y e = cc
 
-module _ (left : List ℕ) (pos : Position) (left' : List ℕ) (pos' : Position) (to : pos' ≡ record { place = pos.place + span left; records = pos.records + 1 }) (behind-is : left' ≡ drop (span left) left) where
-  rest_is : (f : Fields) → next_fields left ≡ Ok f → rest_of (stream_of left) ≡ stream_of left'
-  rest_is f e = ap rest_of (streams left f e) ∙ ap stream_of (sym behind-is)
+-- an alternative has as many classes as the null table
+level_ok : (ws alts xs : List ℕ) (b : Bool) → eqb (length xs) (length ws) ≡ b → ◌≡◌ {A = Result (List ℕ) ReplayFault} (Ok alts) (cond b (Ok xs) (Err (Value UnlikeClasses))) → (◌≡◌ {A = Result (List ℕ) ReplayFault} (Ok alts) (Ok xs)) × (eqb (length alts) (length ws) ≡ true)
+level_ok ws alts xs true level e = let same : alts ≡ xs = cc in (e, ap (λ (x : List ℕ). eqb (length x) (length ws)) same ∙ level)
+level_ok ws alts xs false level e = cc
 
-  spot_is : (f : Fields) → next_fields left ≡ Ok f → behind (spot_of pos) (taken_of (stream_of left)) ≡ spot_of pos'
-  spot_is f e = ap (λ s. behind (spot_of pos) (taken_of s)) (streams left f e) ∙ ap spot_of (sym to)
+many_ok : (ws alts : List ℕ) (r : Result (List ℕ) ReplayFault) → Ok alts ≡ and_then r (as_many ws) → (Ok alts ≡ r) × (eqb (length alts) (length ws) ≡ true)
+many_ok ws alts (Err c) e = cc
+many_ok ws alts (Ok xs) e = level_ok ws alts xs (eqb (length xs) (length ws)) refl e
 
-  -- an alternative with as many classes
-  pub third_taken : (p : Places) (ws : List ℕ) (x : Settings) (alts : List ℕ) (play : Strategy) → Ok alts ≡ alternative_next left → length alts ≡ length ws → play ≡ with_alternative x.bettor ws alts →
-      monitored p ws x play (stream_of left') (spot_of pos') ≡ third p ws x (stream_of left) (spot_of pos) (alternative_next left)
-  third_taken p ws x alts play read level plays =
-      let f = accepted_by (next_fields left) only_alternative alts (sym read) in
-      let same : eqb (length alts) (length ws) ≡ true = eq-eqb (length alts) (length ws) level in
-      let start : monitored p ws x play (stream_of left') (spot_of pos') ≡ monitored p ws x (with_alternative x.bettor ws alts) (rest_of (stream_of left)) (behind (spot_of pos) (taken_of (stream_of left))) =
-      ap (λ q. monitored p ws x q (stream_of left') (spot_of pos')) plays ∙ ap₂ (λ s a. monitored p ws x (with_alternative x.bettor ws alts) s a) (sym (rest_is f.0 f.1)) (sym (spot_is f.0 f.1)) in
-      start ∙ rw (← read, same) refl
+level_err : (at : Spot) (alts : List ℕ) (made : Replay) (f : Fault) (b : Bool) → ◌≡◌ {A = Result (List ℕ) Fault} (Err f) (at_spot at (cond b (Ok alts) (Err (Value UnlikeClasses)))) →
+    unmade f ≡ cond b made (unmade (record { cause = Value UnlikeClasses; «record» = at.number; byte = at.byte }))
+level_err at alts made f true e = cc
+level_err at alts made f false e = let same : f ≡ record { cause = Value UnlikeClasses; «record» = at.number; byte = at.byte } = cc in ap unmade same
 
-  pub second_taken : (p : Places) (ws : List ℕ) (x : Settings) → Ok x ≡ setup_next left → after_setup p ws x (stream_of left') (spot_of pos') ≡ after_table p ws (stream_of left) (spot_of pos)
-  second_taken p ws x read =
-      let f = accepted_by (next_fields left) only_setup x (sym read) in
-      ap₂ (λ s a. after_setup p ws x s a) (sym (rest_is f.0 f.1)) (sym (spot_is f.0 f.1))
-      ∙ ap (second p ws (stream_of left) (spot_of pos)) (read ∙ ap (λ r. and_then r only_setup) (sym (head_is left)))
+module _ (p : Places) (rest : Rest) where
+  -- the header by the next record
+  is_first : first p (stream_of rest.left) rest.at (and_then (next_fields rest.left) only_table) ≡ replayed p (stream_of rest.left) rest.at
+  is_first = ap (λ r. first p (stream_of rest.left) rest.at (and_then r only_table)) (sym (head_is rest.left))
 
-  pub first_taken : (p : Places) (ws : List ℕ) → Ok ws ≡ table_next left → after_table p ws (stream_of left') (spot_of pos') ≡ replayed p (stream_of left) (spot_of pos)
-  first_taken p ws read =
-      let f = accepted_by (next_fields left) only_table ws (sym read) in
-      ap₂ (λ s a. after_table p ws s a) (sym (rest_is f.0 f.1)) (sym (spot_is f.0 f.1))
-      ∙ ap (first p (stream_of left) (spot_of pos)) (read ∙ ap (λ r. and_then r only_table) (sym (head_is left)))
+  is_second : (ws : List ℕ) → second p ws (stream_of rest.left) rest.at (and_then (next_fields rest.left) only_setup) ≡ after_table p ws (stream_of rest.left) rest.at
+  is_second ws = ap (λ r. second p ws (stream_of rest.left) rest.at (and_then r only_setup)) (sym (head_is rest.left))
 
-pub second_refused : (p : Places) (ws left : List ℕ) (at : Spot) (f : ReplayFault) → Err f ≡ setup_next left → no_monitor at f ≡ after_table p ws (stream_of left) at
-second_refused p ws left at f read = ap (second p ws (stream_of left) at) (read ∙ ap (λ r. and_then r only_setup) (sym (head_is left)))
+  is_third : (ws : List ℕ) (x : Settings) → eqb x.bettor 2 ≡ false → third p ws x (stream_of rest.left) rest.at (and_then (next_fields rest.left) only_alternative) ≡ after_setup p ws x (stream_of rest.left) rest.at
+  is_third ws x other = ap (λ r. third p ws x (stream_of rest.left) rest.at (and_then r only_alternative)) (sym (head_is rest.left)) ∙ rw other refl
 
-pub first_refused : (p : Places) (left : List ℕ) (at : Spot) (f : ReplayFault) → Err f ≡ table_next left → no_monitor at f ≡ replayed p (stream_of left) at
-first_refused p left at f read = ap (first p (stream_of left) at) (read ∙ ap (λ r. and_then r only_table) (sym (head_is left)))
+  pub first_refused : (f : Fault) → Err f ≡ at_spot rest.at (and_then (next_fields rest.left) only_table) → unmade f ≡ replayed p (stream_of rest.left) rest.at
+  first_refused f e = at_spot_err rest.at (first p (stream_of rest.left) rest.at) (λ c. refl) _ f e ∙ is_first
 
-pub third_is : (p : Places) (ws : List ℕ) (x : Settings) (left : List ℕ) (at : Spot) → third p ws x (stream_of left) at (alternative_next left) ≡ third p ws x (stream_of left) at (and_then (head_of (stream_of left)) only_alternative)
-third_is p ws x left at = ap (λ r. third p ws x (stream_of left) at (and_then r only_alternative)) (sym (head_is left))
+  pub second_refused : (ws : List ℕ) (f : Fault) → Err f ≡ at_spot rest.at (and_then (next_fields rest.left) only_setup) → unmade f ≡ after_table p ws (stream_of rest.left) rest.at
+  second_refused ws f e = at_spot_err rest.at (second p ws (stream_of rest.left) rest.at) (λ c. refl) _ f e ∙ is_second ws
 
--- a bettor that is not the fixed one, with an alternative, is the mixture
-not_fixed : (b : BettorChoice) → (b ≡ Fixed → ⊥) → eqb (bettor_number b) 1 ≡ false
-not_fixed Fixed h = absurd (h refl)
-not_fixed Adaptive h = refl
-not_fixed Mixture h = refl
+  refused_by : (ws : List ℕ) (x : Settings) (r : Result (List ℕ) ReplayFault) (f : Fault) → Err f ≡ at_spot rest.at (and_then r (as_many ws)) → unmade f ≡ third p ws x (stream_of rest.left) rest.at r
+  refused_by ws x (Err c) f e = at_spot_err rest.at (third p ws x (stream_of rest.left) rest.at) (λ c. refl) (Err c) f e
+  refused_by ws x (Ok alts) f e = level_err rest.at alts _ f (eqb (length alts) (length ws)) e
 
-pub mixes : (b : BettorChoice) (ws alts : List ℕ) (play : Strategy) → (b ≡ Fixed → ⊥) → play ≡ mixture ws ws (fixed ws alts) (adaptive ws (no_tally (length ws))) → play ≡ with_alternative (bettor_number b) ws alts
-mixes b ws alts play h e = let other = not_fixed b h in e ∙ rw other refl
+  pub third_refused : (ws : List ℕ) (x : Settings) (f : Fault) → eqb x.bettor 2 ≡ false → Err f ≡ at_spot rest.at (alternative_for ws rest.left) → unmade f ≡ after_setup p ws x (stream_of rest.left) rest.at
+  third_refused ws x f other e = refused_by ws x (and_then (next_fields rest.left) only_alternative) f e ∙ is_third ws x other
 
-pub mixed_plays : (m : MixtureBettor FixedBettor AdaptiveBettor) (f : FixedBettor) (a : AdaptiveBettor) (n : NullTable) (alt : AlternativeTable) → m ≡ record { first = f; second = a } → f.null ≡ n → f.alternative ≡ alt → a.null ≡ n → tally_of a ≡ no_tally (length (null_weights n)) →
+  -- bettor 2 needs no alternative
+  pub goes_adaptive : (ws : List ℕ) (x : Settings) (play : Strategy) → x.bettor ≡ 2 → play ≡ adaptive ws (no_tally (length ws)) → monitored p ws x play (stream_of rest.left) rest.at ≡ after_setup p ws x (stream_of rest.left) rest.at
+  goes_adaptive ws x play is plays = rw (is, plays) refl
+
+  module _ (rest' : Rest) (past : rest' ≡ behind_record rest) where
+    goes_on : (go : Stream → Spot → Replay) (f : Fields) → next_fields rest.left ≡ Ok f → go (stream_of rest'.left) rest'.at ≡ go (rest_of (stream_of rest.left)) (behind rest.at (taken_of (stream_of rest.left)))
+    goes_on go f e =
+        let next = streams rest.left f e in
+        ap (λ r. go (stream_of r.left) r.at) past ∙ ap (λ s. go (rest_of s) (behind rest.at (taken_of s))) (sym next)
+
+    pub first_taken : (ws : List ℕ) → Ok ws ≡ at_spot rest.at (and_then (next_fields rest.left) only_table) → after_table p ws (stream_of rest'.left) rest'.at ≡ replayed p (stream_of rest.left) rest.at
+    first_taken ws e =
+        let read = at_spot_ok rest.at _ ws e in
+        let f = accepted_by (next_fields rest.left) only_table ws read in
+        goes_on (after_table p ws) f.0 f.1 ∙ ap (first p (stream_of rest.left) rest.at) read ∙ is_first
+
+    pub second_taken : (ws : List ℕ) (x : Settings) → Ok x ≡ at_spot rest.at (and_then (next_fields rest.left) only_setup) → after_setup p ws x (stream_of rest'.left) rest'.at ≡ after_table p ws (stream_of rest.left) rest.at
+    second_taken ws x e =
+        let read = at_spot_ok rest.at _ x e in
+        let f = accepted_by (next_fields rest.left) only_setup x read in
+        goes_on (after_setup p ws x) f.0 f.1 ∙ ap (second p ws (stream_of rest.left) rest.at) read ∙ is_second ws
+
+    -- an alternative with as many classes
+    pub third_taken : (ws : List ℕ) (x : Settings) (alts : List ℕ) (play : Strategy) → eqb x.bettor 2 ≡ false → Ok alts ≡ at_spot rest.at (alternative_for ws rest.left) → play ≡ with_alternative x.bettor ws alts →
+        monitored p ws x play (stream_of rest'.left) rest'.at ≡ after_setup p ws x (stream_of rest.left) rest.at
+    third_taken ws x alts play other e plays =
+        let read = many_ok ws alts _ (at_spot_ok rest.at _ alts e) in
+        let f = accepted_by (next_fields rest.left) only_alternative alts read.0 in
+        let level = read.1 in
+        let taken : monitored p ws x (with_alternative x.bettor ws alts) (rest_of (stream_of rest.left)) (behind rest.at (taken_of (stream_of rest.left))) ≡ third p ws x (stream_of rest.left) rest.at (Ok alts) = rw level refl in
+        ap (λ q. monitored p ws x q (stream_of rest'.left) rest'.at) plays ∙ goes_on (monitored p ws x (with_alternative x.bettor ws alts)) f.0 f.1
+        ∙ taken ∙ ap (third p ws x (stream_of rest.left) rest.at) read.0 ∙ is_third ws x other
+
+-- behind a table and a setup
+pub header_taken : (p : Places) (rest rest1 rest2 : Rest) → rest1 ≡ behind_record rest → rest2 ≡ behind_record rest1 → (ws : List ℕ) (x : Settings) →
+    Ok ws ≡ at_spot rest.at (and_then (next_fields rest.left) only_table) → Ok x ≡ at_spot rest1.at (and_then (next_fields rest1.left) only_setup) →
+    after_setup p ws x (stream_of rest2.left) rest2.at ≡ replayed p (stream_of rest.left) rest.at
+header_taken p rest rest1 rest2 past past1 ws x e e1 = second_taken p rest1 rest2 past1 ws x e1 ∙ first_taken p rest rest1 past ws e
+
+-- what a mixture of the fixed and the adaptive bettor plays
+pub mixed_plays : (m : MixtureBettor FixedBettor AdaptiveBettor) (f : FixedBettor) (a : AdaptiveBettor) (n : Table 1) → m ≡ record { first = f; second = a } → f.null ≡ n → a.null ≡ n → tally_of a ≡ no_tally (length (null_weights n)) →
     ◌≡◌ {A = Strategy} (mixture (null_weights m.first.null) (null_weights m.second.null) (fixed (null_weights m.first.null) (alternative_weights m.first.alternative)) (adaptive (null_weights m.second.null) (tally_of m.second)))
-    (mixture (null_weights n) (null_weights n) (fixed (null_weights n) (alternative_weights alt)) (adaptive (null_weights n) (no_tally (length (null_weights n)))))
-mixed_plays m f a n alt made e1 e2 e3 e4 =
+    (mixture (null_weights n) (null_weights n) (fixed (null_weights n) (alternative_weights f.alternative)) (adaptive (null_weights n) (no_tally (length (null_weights n)))))
+mixed_plays m f a n made e1 e2 e3 =
     ap (λ x. mixture (null_weights x.first.null) (null_weights x.second.null) (fixed (null_weights x.first.null) (alternative_weights x.first.alternative)) (adaptive (null_weights x.second.null) (tally_of x.second))) made
-    ∙ ap₂ (λ x y. mixture (null_weights x) (null_weights a.null) (fixed (null_weights x) (alternative_weights y)) (adaptive (null_weights a.null) (tally_of a))) e1 e2
-    ∙ ap₂ (λ x y. mixture (null_weights n) (null_weights x) (fixed (null_weights n) (alternative_weights alt)) (adaptive (null_weights x) y)) e3 e4
-
-not_adaptive : (b : BettorChoice) → (b ≡ Adaptive → ⊥) → eqb (bettor_number b) 2 ≡ false
-not_adaptive Fixed h = refl
-not_adaptive Adaptive h = absurd (h refl)
-not_adaptive Mixture h = refl
-
--- any bettor but the adaptive one needs an alternative
-pub needs_third : (p : Places) (ws : List ℕ) (x : SetupValue) (left : List ℕ) (at : Spot) → (x.bettor ≡ Adaptive → ⊥) → third p ws (settings_of x) (stream_of left) at (alternative_next left) ≡ after_setup p ws (settings_of x) (stream_of left) at
-needs_third p ws x left at h = let other = not_adaptive x.bettor h in third_is p ws (settings_of x) left at ∙ rw other refl
-
--- a report of a fault before there is a monitor, with empty books
-pub none_told : (r : Report) (alarms : Book Alarm) (unwatched : Book Unwatched) (f : ReplayFault) (at : Spot) (n b : ℕ) → r ≡ UnmadeReport (record { cause = f; «record» = n; byte = b }) → n ≡ at.number → b ≡ at.byte → entries_of alarms ≡ [] → entries_of unwatched ≡ [] →
-    replay_told r alarms unwatched ≡ no_monitor at f
-none_told r alarms unwatched f at n b is ne be ea eu = rw (is, ne, be, ea, eu) refl
+    ∙ ap (λ x. mixture (null_weights x) (null_weights a.null) (fixed (null_weights x) (alternative_weights f.alternative)) (adaptive (null_weights a.null) (tally_of a))) e1
+    ∙ ap₂ (λ x y. mixture (null_weights n) (null_weights x) (fixed (null_weights n) (alternative_weights f.alternative)) (adaptive (null_weights x) y)) e2 e3

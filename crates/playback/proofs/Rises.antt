@@ -63,7 +63,7 @@ Taken w day w' =
 taken_not_faulted : (w w' : Watch) (f : ReplayFault) → done (Ok tt) w' ≡ faulted w f → ⊥
 taken_not_faulted w w' f e =
     let told : ◌≡◌ {A = Result (Unit {0}) ReplayFault} (Ok tt) (Err f) = ap (λ d. d.answer) e in
-    let z : ◌≡◌ {A = ℕ} 0 1 = cc in omega arith
+    cc
 
 by_answer : (w w' : Watch) (day : ℕ) (x : Result (Unit {0}) ReplayFault) (s : Standing) (ents : List AlarmView) → Grown (λ a. a.day) day w.alarms ents → done (Ok tt) w' ≡ round_done w day x s ents → Taken w day w'
 by_answer w w' day (Ok u) s ents g e = (s, ents, w.unwatched, ap (λ d. d.after) e, g, inl refl)

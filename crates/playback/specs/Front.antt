@@ -1,13 +1,11 @@
 -- The next record, as a replay sees it.
-use Rattle.std.specs.Prelude.{◌≡◌, ℕ, ◌+◌, List, Ok, Err, Result}
+use Rattle.std.specs.Prelude.{ℕ, List, Ok, Err, Result}
 use Rattle.plantlog.specs.declared.fault.RecordFault.{RecordFault}
 use Rattle.plantlog.specs.declared.record.Setup.{Setup as SetupValue}
 use Rattle.plantlog.specs.Choices.{rule_number, bettor_number}
-use Rattle.plantlog.specs.Results.{of_ok, and_then}
+use Rattle.plantlog.specs.Results.{of_ok}
 use Rattle.plantlog.specs.Format.{Fields, Table, Setup, Alternative, Count, Rearm, End}
 use Rattle.plantlog.specs.FirstRecord.{first_record}
-use Rattle.plantlog.specs.Calls.{span}
-use Rattle.plantlog.specs.Position.{Position}
 use Rattle.playback.specs.declared.stop.ReplayFault.{ReplayFault}
 use Rattle.playback.specs.declared.stop.ReplayFault.TheVariants.{Record, NotAllowed}
 
@@ -50,22 +48,8 @@ only_alternative (Count day n) = Err NotAllowed
 only_alternative Rearm = Err NotAllowed
 only_alternative (End n) = Err NotAllowed
 
-abbrev pub table_next : List ℕ → Result (List ℕ) ReplayFault
-table_next left = and_then (next_fields left) only_table
-
-abbrev pub setup_next : List ℕ → Result Settings ReplayFault
-setup_next left = and_then (next_fields left) only_setup
-
-abbrev pub alternative_next : List ℕ → Result (List ℕ) ReplayFault
-alternative_next left = and_then (next_fields left) only_alternative
-
 abbrev pub settings_of : SetupValue → Settings
 settings_of s = record { threshold = s.threshold; rule = rule_number s.rule; bettor = bettor_number s.bettor }
-
--- an accepted record is moved past
-abbrev pub moved_past : {X : Type 0} → Result X ReplayFault → List ℕ → Position → Position → Type 0
-moved_past (Ok x) left before after = after ≡ record { place = before.place + span left; records = before.records + 1 }
-moved_past (Err e) left before after = Unit {0}
 
 -- the number that a count in front says
 abbrev pub count_said : Fields → ℕ

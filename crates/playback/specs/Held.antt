@@ -1,26 +1,40 @@
 -- What the books hold, as plain data.
-use Rattle.std.specs.Prelude.{ℕ, ◌+◌, List, map, Some, Ok, Err, Result}
+use Rattle.std.specs.Prelude.{◌≡◌, List, [], map, None}
 use Rattle.daybook.specs.declared.book.Book.{Book}
 use Rattle.daybook.specs.declared.entry.alarm.Alarm.{Alarm}
-use Rattle.edetector.specs.Ledger.{Standing}
 use Rattle.daybook.specs.declared.entry.unwatched.Unwatched.{Unwatched}
-use Rattle.playback.specs.declared.progress.Progress.{Progress}
-use Rattle.playback.specs.declared.stop.ReplayFault.{ReplayFault}
-use Rattle.daybook.specs.Books.{entries_of, places_of}
+use Rattle.edetector.specs.Ledger.{Standing}
+use Rattle.daybook.specs.Books.{entries_of, places_of, Keeps}
 use Rattle.daybook.specs.Entries.{AlarmView, alarm_view}
+use Rattle.playback.specs.declared.books.Books.{Books}
+use Rattle.playback.specs.Rest.{Rest}
 use Rattle.playback.specs.Watch.{Watch, Places}
 
 abbrev pub alarms_in : Book Alarm → List AlarmView
 alarms_in b = map alarm_view (entries_of b)
 
 -- the replay's state, from its parts
-abbrev pub watch_of : Standing → Progress → Book Alarm → Book Unwatched → Watch
-watch_of s p alarms unwatched = record { standing = s; last = p.last; counts = p.counts; alarms = alarms_in alarms; unwatched = entries_of unwatched }
+abbrev pub watch_of : Standing → Rest → Books → Watch
+watch_of s rest books = record { standing = s; last = rest.last; counts = rest.counts; alarms = alarms_in books.alarms.now; unwatched = entries_of books.unwatched.now }
 
 abbrev pub places_in : Book Alarm → Book Unwatched → Places
 places_in alarms unwatched = record { alarms = places_of alarms; unwatched = places_of unwatched }
 
--- a count of the day was taken, or refused
-abbrev pub noted_if : Result (Unit {0}) ReplayFault → ℕ → Progress → Progress
-noted_if (Ok u) day p = record { last = Some day; counts = p.counts + 1 }
-noted_if (Err f) day p = p
+-- the places of the two books that were lent
+abbrev pub places_lent : Books → Places
+places_lent books = places_in books.alarms.now books.unwatched.now
+
+-- no count was read, and neither book has an entry
+pub record NothingYet (rest : Rest) (books : Books) : Type 0 where
+  pub last : rest.last ≡ None
+  pub counts : rest.counts ≡ 0
+  pub alarms : entries_of books.alarms.now ≡ []
+  pub unwatched : entries_of books.unwatched.now ≡ []
+
+-- the same two books are lent; entries may have been added to both, and the places behind them hold what they held
+pub record KeepsBooks (before after : Books) : Type 0 where
+  pub alarms_lender : after.alarms.ghost_name ≡ before.alarms.ghost_name
+  pub unwatched_lender : after.unwatched.ghost_name ≡ before.unwatched.ghost_name
+  pub places : places_lent after ≡ places_lent before
+  pub alarms : Keeps before.alarms.now after.alarms.now
+  pub unwatched : Keeps before.unwatched.now after.unwatched.now

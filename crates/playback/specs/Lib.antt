@@ -3,8 +3,10 @@ pub mod Figures
 pub mod Front
 pub mod Held
 pub mod Listing
+pub mod Reading
 pub mod Replayed
 pub mod Replaying
+pub mod Rest
 pub mod Rising
 pub mod Stepping
 pub mod Stops

@@ -1,8 +1,8 @@
 -- The listing of a replay, line by line.
 use Rattle.std.specs.Prelude.{ℕ, cond, List, [], ◌∷◌, ◌++◌, length, Some, None, Option, ◌==◌}
 use Rattle.edetector.specs.Ledger.{Told}
-use Rattle.daybook.specs.declared.line.setup.RuleLetter.{RuleLetter}
-use Rattle.daybook.specs.declared.line.setup.RuleLetter.TheVariants.{S, P}
+use Rattle.plantlog.specs.declared.record.RuleChoice.{RuleChoice}
+use Rattle.plantlog.specs.declared.record.RuleChoice.TheVariants.{ShiryaevRoberts, Page}
 use Rattle.daybook.specs.Lines.{monitor_line, alarm_lines, unwatched_lines, end_line, fault_line}
 use Rattle.playback.specs.declared.stop.Fault.{Fault}
 use Rattle.playback.specs.Stops.{stop_number, stop_layer}
@@ -11,13 +11,14 @@ use Rattle.playback.specs.Replayed.{Said, Unmade, Made, Replay}
 abbrev pub ended_line : List ℕ → List ℕ
 ended_line text = text ++ (10 ∷ [])
 
-abbrev pub rule_letter : ℕ → RuleLetter
-rule_letter r = cond (r == 1) S P
+-- the rule of a number
+abbrev pub rule_named : ℕ → RuleChoice
+rule_named r = cond (r == 1) ShiryaevRoberts Page
 
 -- the line of the monitor, once it is made
 abbrev pub monitor_part : Said → List ℕ
 monitor_part (Unmade f) = []
-monitor_part (Made classes total threshold rule told fault) = ended_line (monitor_line classes total threshold (rule_letter rule))
+monitor_part (Made classes total threshold rule told fault) = ended_line (monitor_line classes total threshold (rule_named rule))
 
 abbrev pub fault_text : Fault → List ℕ
 fault_text f = fault_line (stop_number f.cause) f.«record» f.byte (stop_layer f.cause)

@@ -14,7 +14,7 @@ use Rattle.playback.specs.declared.stop.ReplayFault.TheVariants.{Record, Value, 
 use Rattle.playback.specs.declared.stop.Fault.{Fault}
 use Rattle.daybook.specs.declared.entry.unwatched.Unwatched.{Unwatched}
 use Rattle.daybook.specs.Entries.{AlarmView}
-use Rattle.playback.specs.Front.{Settings, only_table, only_setup, only_alternative}
+use Rattle.playback.specs.Front.{Settings, next_fields, only_table, only_setup, only_alternative}
 use Rattle.playback.specs.Stream.{Stream, Over, Broken, Next, stream_of}
 use Rattle.playback.specs.Watch.{Watch, Places}
 use Rattle.playback.specs.Replaying.{Spot, behind, Finish, watching}
@@ -73,6 +73,13 @@ monitored p ws x play rest at =
 -- bettor 1 is fixed, 3 a mixture of fixed and adaptive
 abbrev pub with_alternative : ℕ → List ℕ → List ℕ → Strategy
 with_alternative b ws alts = cond (b == 1) (fixed ws alts) (mixture ws ws (fixed ws alts) (adaptive ws (no_tally (length ws))))
+
+-- an alternative in front, which must have as many classes as the null table
+abbrev pub as_many : List ℕ → List ℕ → Result (List ℕ) ReplayFault
+as_many ws alts = cond (length alts == length ws) (Ok alts) (Err (Value UnlikeClasses))
+
+abbrev pub alternative_for : List ℕ → List ℕ → Result (List ℕ) ReplayFault
+alternative_for ws left = and_then (and_then (next_fields left) only_alternative) (as_many ws)
 
 abbrev pub third : Places → List ℕ → Settings → Stream → Spot → Result (List ℕ) ReplayFault → Replay
 third p ws x s at (Ok alts) =

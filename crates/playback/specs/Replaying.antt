@@ -6,13 +6,9 @@ use Rattle.plantlog.specs.Format.{Table, Setup, Alternative, Count, Rearm, End}
 use Rattle.playback.specs.declared.stop.ReplayFault.{ReplayFault}
 use Rattle.playback.specs.declared.stop.ReplayFault.TheVariants.{Record, NotAllowed, Trailing}
 use Rattle.playback.specs.declared.stop.Fault.{Fault}
+pub use Rattle.playback.specs.declared.spot.Spot.{Spot}
 use Rattle.playback.specs.Stream.{Stream, Over, Broken, Next}
 use Rattle.playback.specs.Watch.{Watch, Places, count_read, rearm_read, end_read}
-
--- the next record's number from 1, and the byte from 0 where it begins
-pub record Spot : Type 0 where
-  pub number : ℕ
-  pub byte : ℕ
 
 abbrev pub behind : Spot → ℕ → Spot
 behind at taken = record { number = at.number + 1; byte = at.byte + taken }

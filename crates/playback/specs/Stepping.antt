@@ -1,28 +1,30 @@
 -- One record of a log: how the rest of the replay follows from it.
-use Rattle.std.specs.Prelude.{◌≡◌, ℕ, ◌+◌, ◌<◌, ◌≤◌, Bool, true, false, List, length, Ok, Err, Result}
+use Rattle.std.specs.Prelude.{◌≡◌, ◌<◌, Bool, true, false, length, Ok, Err, Result}
 use Rattle.edetector.specs.Ledger.{Terms}
-use Rattle.plantlog.specs.Position.{Position}
 use Rattle.playback.specs.declared.stop.ReplayFault.{ReplayFault}
 use Rattle.playback.specs.Stream.{stream_of}
 use Rattle.playback.specs.Watch.{Watch, Places}
+use Rattle.playback.specs.Rest.{Rest}
 use Rattle.playback.specs.Rising.{Rising}
-use Rattle.playback.specs.Replaying.{Spot, stopped, fault_at, at_end, watching}
+use Rattle.playback.specs.Replaying.{Finish, stopped, fault_at, at_end, watching}
 
--- the next record's number and byte
-abbrev pub spot_of : Position → Spot
-spot_of p = record { number = p.records + 1; byte = p.place }
+-- what the replay of the rest comes to, or the rest behind an end
+abbrev pub comes_to : Terms → Places → Rest → Watch → Finish
+comes_to t p rest w = watching t p (stream_of rest.left) rest.at w
 
--- what the replay of the bytes left comes to, after a record that was taken, an end, or a fault
-abbrev pub Stepped : Terms → Places → List ℕ → Position → Watch → Result Bool ReplayFault → List ℕ → Position → Watch → Type 0
-Stepped t p left pos w (Ok true) left' pos' w' = watching t p (stream_of left) (spot_of pos) w ≡ watching t p (stream_of left') (spot_of pos') w'
-Stepped t p left pos w (Ok false) left' pos' w' = watching t p (stream_of left) (spot_of pos) w ≡ at_end (stream_of left') (spot_of pos') w'
-Stepped t p left pos w (Err f) left' pos' w' = watching t p (stream_of left) (spot_of pos) w ≡ stopped w' (fault_at (spot_of pos) f)
+abbrev pub ends_as : Rest → Watch → Finish
+ends_as rest w = at_end (stream_of rest.left) rest.at w
 
--- a replay can go on: days rise, counts are records, and fewer bytes are left than before
-pub record GoesOn (left left' : List ℕ) (pos : Position) (w : Watch) : Type 0 where
+-- the same of the rest behind a record that was taken, behind an end, or at a fault
+abbrev pub Stepped : Terms → Places → Rest → Watch → Result Bool ReplayFault → Rest → Watch → Type 0
+Stepped t p rest w (Ok true) rest' w' = comes_to t p rest w ≡ comes_to t p rest' w'
+Stepped t p rest w (Ok false) rest' w' = comes_to t p rest w ≡ ends_as rest' w'
+Stepped t p rest w (Err f) rest' w' = comes_to t p rest w ≡ stopped w' (fault_at rest.at f)
+
+-- a replay can go on: days rise, and fewer bytes are left than before
+pub record GoesOn (rest rest' : Rest) (w : Watch) : Type 0 where
   pub rising : Rising w
-  pub fewer : w.counts ≤ pos.records
-  pub shorter : length left' < length left
+  pub shorter : length rest'.left < length rest.left
 
 abbrev pub IfOn : Result Bool ReplayFault → Type 0 → Type 0
 IfOn (Ok true) P = P

@@ -1,11 +1,10 @@
 -- The number and the place of each cause that stops a replay.
 use Rattle.std.specs.Prelude.{ℕ}
 use Rattle.edetector.specs.Faults.{value_number, monitor_number}
-use Rattle.plantlog.specs.declared.fault.Layer.{Layer as LogLayer}
-use Rattle.plantlog.specs.declared.fault.Layer.TheVariants.{Value as InValue, Number as InNumber, Record as InRecord}
+use Rattle.plantlog.specs.declared.fault.Layer.TheVariants.{Value as OfValue}
 use Rattle.plantlog.specs.RecordFaults.{record_fault_number, record_fault_layer}
 use Rattle.daybook.specs.declared.line.fault.Layer.{Layer}
-use Rattle.daybook.specs.declared.line.fault.Layer.TheVariants.{Value as OfValue, Number as OfNumber, Record as OfRecord, Monitor as OfMonitor, Book as OfBook, Replay as OfReplay}
+use Rattle.daybook.specs.declared.line.fault.Layer.TheVariants.{Log as OfLog, Monitor as OfMonitor, Book as OfBook, Replay as OfReplay}
 use Rattle.daybook.specs.Faults.{book_number}
 use Rattle.playback.specs.declared.stop.ReplayFault.{ReplayFault}
 use Rattle.playback.specs.declared.stop.ReplayFault.TheVariants.{Record, Value, Monitor, Book, NotAllowed, DayNotAbove, CountsDiffer, Trailing, TooLong}
@@ -21,14 +20,9 @@ stop_number CountsDiffer = 44
 stop_number Trailing = 46
 stop_number TooLong = 48
 
-abbrev pub log_layer : LogLayer → Layer
-log_layer InValue = OfValue
-log_layer InNumber = OfNumber
-log_layer InRecord = OfRecord
-
 abbrev pub stop_layer : ReplayFault → Layer
-stop_layer (Record cause) = log_layer (record_fault_layer cause)
-stop_layer (Value cause) = OfValue
+stop_layer (Record cause) = OfLog (record_fault_layer cause)
+stop_layer (Value cause) = OfLog OfValue
 stop_layer (Monitor cause) = OfMonitor
 stop_layer (Book cause) = OfBook
 stop_layer NotAllowed = OfReplay

@@ -1,76 +1,102 @@
 // The records before the counts: a table, a setup, and an alternative where the bettor needs one.
-ghost use Rattle.std.specs.Prelude.{◌≡◌, ◌≤◌, length};
+ghost use Rattle.std.specs.Prelude.{◌≡◌, ℕ, Ok, Err, Result, List, OnOk, refl};
 ghost use Rattle.edetector.specs.Weights.{null_weights, alternative_weights};
-ghost use Rattle.plantlog.specs.Results.{of_ok};
-ghost use Rattle.plantlog.specs.Format.{kind_of};
-ghost use Rattle.plantlog.specs.Position.{position, log_of, left_in, moved};
-ghost use Rattle.playback.specs.Front.{next_fields, settings_of, moved_past, table_next, setup_next, alternative_next};
+ghost use Rattle.plantlog.specs.Format.{Fields, Count as CountFields};
+ghost use Rattle.plantlog.specs.Results.{of_ok, and_then};
+ghost use Rattle.plantlog.specs.Views.{record_said};
+ghost use Rattle.playback.specs.declared.stop.ReplayFault.{ReplayFault};
+ghost use Rattle.playback.specs.declared.stop.ReplayFault.TheVariants.{NotAllowed};
+ghost use Rattle.playback.specs.Front.{Settings, next_fields, settings_of, only_table, only_setup, only_alternative};
+ghost use Rattle.playback.specs.Rest.{at_spot, behind_record};
 
-use super::stop::ReplayFault;
+use super::records::Records;
+use super::stop::{Fault, ReplayFault};
 use edetector::table::{AlternativeTable, NullTable};
-use plantlog::fault::RecordFault;
-use plantlog::reader::Reader;
 use plantlog::record::{Kind, Record, Setup};
 
-// The next record's kind. It does not move on.
-pub(super) fn next_kind(reader: &mut Reader<'_>, buffer: &mut [u8]) -> Result<Kind, ReplayFault>
-    requires { 63 ≤ length buffer.old }
-    ensures value { result ≡ of_ok kind_of (next_fields (left_in reader.old)) }
-    ensures same { reader.new ≡ reader.old }
-{
-    match reader.ask(buffer)? {
-        Some(kind) => Ok(kind),
-        None => Err(ReplayFault::Record(RecordFault::NoneLeft)),
+// One of the records of a header. No `TryFrom` of the log's, since that another record is not allowed here is the replay's fault.
+pub(super) trait HeaderRecord: Copy {
+    ghost Said: { Type 0 };
+
+    ghost said: { Self → Self.Said };
+
+    // what a record says that has to be this one
+    ghost only: { Fields → Result Self.Said ReplayFault };
+
+    fn from_record(record: Record) -> Result<Self, ReplayFault>
+        ensures { of_ok said result ≡ only (record_said «record») };
+
+    // no count is one of them
+    ghost no_count: { (day n : ℕ) → only (CountFields day n) ≡ Err NotAllowed };
+}
+
+impl HeaderRecord for NullTable {
+    ghost Said = { List ℕ };
+
+    ghost said = { null_weights };
+
+    ghost only = { only_table };
+
+    ghost no_count = { λ day n. refl };
+
+    fn from_record(record: Record) -> Result<NullTable, ReplayFault> {
+        match record {
+            Record::Table(null) => Ok(null),
+            _ => Err(ReplayFault::NotAllowed),
+        }
     }
 }
 
-pub(super) fn table(reader: &mut Reader<'_>, buffer: &mut [u8]) -> Result<NullTable, ReplayFault>
-    requires { 63 ≤ length buffer.old }
-    ensures value { of_ok null_weights result ≡ table_next (left_in reader.old) }
-    ensures moved { moved_past result (left_in reader.old) (position reader.old) (position reader.new) }
-    ensures log { log_of reader.new ≡ log_of reader.old }
-{
-    match next_kind(reader, buffer)? {
-        Kind::Table => {}
-        _ => return Err(ReplayFault::NotAllowed),
-    }
-    match reader.read(buffer)? {
-        Record::Table(null) => Ok(null),
-        _ => Err(ReplayFault::NotAllowed),
+impl HeaderRecord for Setup {
+    ghost Said = { Settings };
+
+    ghost said = { settings_of };
+
+    ghost only = { only_setup };
+
+    ghost no_count = { λ day n. refl };
+
+    fn from_record(record: Record) -> Result<Setup, ReplayFault> {
+        match record {
+            Record::Setup(setup) => Ok(setup),
+            _ => Err(ReplayFault::NotAllowed),
+        }
     }
 }
 
-pub(super) fn setup(reader: &mut Reader<'_>, buffer: &mut [u8]) -> Result<Setup, ReplayFault>
-    requires { 63 ≤ length buffer.old }
-    ensures value { of_ok settings_of result ≡ setup_next (left_in reader.old) }
-    ensures moved { moved_past result (left_in reader.old) (position reader.old) (position reader.new) }
-    ensures log { log_of reader.new ≡ log_of reader.old }
-{
-    match next_kind(reader, buffer)? {
-        Kind::Setup => {}
-        _ => return Err(ReplayFault::NotAllowed),
-    }
-    match reader.read(buffer)? {
-        Record::Setup(setup) => Ok(setup),
-        _ => Err(ReplayFault::NotAllowed),
+impl HeaderRecord for AlternativeTable {
+    ghost Said = { List ℕ };
+
+    ghost said = { alternative_weights };
+
+    ghost only = { only_alternative };
+
+    ghost no_count = { λ day n. refl };
+
+    fn from_record(record: Record) -> Result<AlternativeTable, ReplayFault> {
+        match record {
+            Record::Alternative(alternative) => Ok(alternative),
+            _ => Err(ReplayFault::NotAllowed),
+        }
     }
 }
 
-pub(super) fn alternative(
-    reader: &mut Reader<'_>,
-    buffer: &mut [u8],
-) -> Result<AlternativeTable, ReplayFault>
-    requires { 63 ≤ length buffer.old }
-    ensures value { of_ok alternative_weights result ≡ alternative_next (left_in reader.old) }
-    ensures moved { moved_past result (left_in reader.old) (position reader.old) (position reader.new) }
-    ensures log { log_of reader.new ≡ log_of reader.old }
+// The next record, which has to be a T, or why it is none.
+fn next<T: HeaderRecord>(records: &mut Records<'_>) -> Result<T, ReplayFault>
+    ensures value { of_ok T.said result ≡ and_then (next_fields records.old.left) T.only }
+    ensures moved { OnOk result (records.new ≡ behind_record records.old) }
 {
-    match next_kind(reader, buffer)? {
-        Kind::Alternative => {}
-        _ => return Err(ReplayFault::NotAllowed),
+    match records.next_kind()? {
+        Kind::Count(_) => Err(ReplayFault::NotAllowed),
+        _ => T::from_record(records.read()?),
     }
-    match reader.read(buffer)? {
-        Record::Alternative(alternative) => Ok(alternative),
-        _ => Err(ReplayFault::NotAllowed),
-    }
+}
+
+// The next record, which has to be a T, or the fault where it begins.
+pub(super) fn header<T: HeaderRecord>(records: &mut Records<'_>) -> Result<T, Fault>
+    ensures value { of_ok T.said result ≡ at_spot records.old.at (and_then (next_fields records.old.left) T.only) }
+    ensures moved { OnOk result (records.new ≡ behind_record records.old) }
+{
+    let at = records.spot();
+    next(records).map_err(|cause| at.fault(cause))
 }

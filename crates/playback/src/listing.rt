@@ -1,69 +1,63 @@
 // The listing of a replay, by its exact bytes.
 ghost use Rattle.std.specs.Prelude.{◌≡◌, List, ◌++◌, map, length, IfOk, string_bytes, OnOk};
-ghost use Rattle.plantlog.specs.Choices.{rule_number};
 ghost use Rattle.daybook.specs.Entries.{alarm_view};
-ghost use Rattle.playback.specs.declared.report.Report.TheVariants.{Made as MadeReport};
-ghost use Rattle.playback.specs.Listing.{rule_letter, monitor_part, last_part, listing_of};
+ghost use Rattle.playback.specs.Listing.{monitor_part, last_part, listing_of};
 ghost use Rattle.playback.specs.Stops.{stop_number, stop_layer};
+ghost use Rattle.playback.specs.Replayed.{replay_of};
 ghost use Rattle.playback.specs.Told.{said_by};
 
-use super::report::{Report, Run};
+use super::replay::replay;
+use super::report::Run;
 use super::stop::Fault;
+use daybook::book::Book;
 use daybook::entry::alarm::Alarm;
 use daybook::entry::unwatched::Unwatched;
-use daybook::line::block::{put_alarms, put_line, put_unwatched};
+use daybook::line::block::{put_line, put_lines};
 use daybook::line::ending::EndLine;
 use daybook::line::fault::FaultLine;
-use daybook::line::setup::{MonitorLine, RuleLetter};
-use plantlog::record::RuleChoice;
+use daybook::line::setup::MonitorLine;
 use std::alloc::{AllocError, Global};
 
-fn letter(rule: RuleChoice) -> RuleLetter
-    ensures { result ≡ rule_letter (rule_number rule) }
-{
-    match rule {
-        RuleChoice::ShiryaevRoberts => RuleLetter::S,
-        RuleChoice::Page => RuleLetter::P,
+impl From<Run> for MonitorLine {
+    ghost from_gives = { λ run line. line ≡ record { classes = run.classes; total = run.total; threshold = run.threshold; rule = run.rule } };
+
+    fn from(run: Run) -> MonitorLine {
+        MonitorLine {
+            classes: run.classes,
+            total: run.total,
+            threshold: run.threshold,
+            rule: run.rule,
+        }
     }
 }
 
-fn put_setup(out: &mut String, run: Run) -> Result<(), AllocError>
-    ensures { OnOk result (string_bytes out.new ≡ string_bytes out.old ++ monitor_part (said_by (MadeReport run))) }
-{
-    let line = MonitorLine {
-        classes: run.classes,
-        total: run.total,
-        threshold: run.threshold,
-        rule: letter(run.rule),
-    };
-    put_line(out, line)
-}
-
-fn put_monitor(out: &mut String, report: &Report) -> Result<(), AllocError>
+fn put_monitor(out: &mut String, report: &Result<Run, Fault>) -> Result<(), AllocError>
     ensures { OnOk result (string_bytes out.new ≡ string_bytes out.old ++ monitor_part (said_by report.now)) }
 {
     match *report {
-        Report::Unmade(_) => Ok(()),
-        Report::Made(run) => put_setup(out, run),
+        Err(_) => Ok(()),
+        Ok(run) => put_line(out, MonitorLine::from(run)),
     }
 }
 
-fn fault_line(fault: Fault) -> FaultLine
-    ensures { result ≡ record { number = stop_number fault.cause; «record» = fault.«record»; byte = fault.byte; layer = stop_layer fault.cause } }
-{
-    FaultLine {
-        number: fault.cause.number(),
-        record: fault.record,
-        byte: fault.byte,
-        layer: fault.cause.layer(),
+impl From<Fault> for FaultLine {
+    ghost from_gives = { λ fault line. line ≡ record { number = stop_number fault.cause; «record» = fault.«record»; byte = fault.byte; layer = stop_layer fault.cause } };
+
+    fn from(fault: Fault) -> FaultLine {
+        FaultLine {
+            number: u8::from(fault.cause),
+            record: fault.record,
+            byte: fault.byte,
+            layer: fault.cause.layer(),
+        }
     }
 }
 
 fn put_end(out: &mut String, run: Run, unwatched: usize) -> Result<(), AllocError>
-    ensures { OnOk result (string_bytes out.new ≡ string_bytes out.old ++ last_part (said_by (MadeReport run)) unwatched) }
+    ensures { OnOk result (string_bytes out.new ≡ string_bytes out.old ++ last_part (said_by (Ok run)) unwatched) }
 {
     match run.fault {
-        Some(fault) => put_line(out, fault_line(fault)),
+        Some(fault) => put_line(out, FaultLine::from(fault)),
         None => {
             let line = EndLine {
                 rounds: run.last.rounds,
@@ -75,27 +69,43 @@ fn put_end(out: &mut String, run: Run, unwatched: usize) -> Result<(), AllocErro
     }
 }
 
-fn put_last(out: &mut String, report: &Report, unwatched: usize) -> Result<(), AllocError>
+fn put_last(
+    out: &mut String,
+    report: &Result<Run, Fault>,
+    unwatched: usize,
+) -> Result<(), AllocError>
     ensures { OnOk result (string_bytes out.new ≡ string_bytes out.old ++ last_part (said_by report.now) unwatched) }
 {
     match *report {
-        Report::Unmade(fault) => put_line(out, fault_line(fault)),
-        Report::Made(run) => put_end(out, run, unwatched),
+        Err(fault) => put_line(out, FaultLine::from(fault)),
+        Ok(run) => put_end(out, run, unwatched),
     }
 }
 
 pub fn listing(
-    heap: Global,
-    report: &Report,
+    alloc: Global,
+    report: &Result<Run, Fault>,
     alarms: &[Alarm],
     unwatched: &[Unwatched],
 ) -> Result<String, AllocError>
     ensures { IfOk result (λ s. string_bytes s ≡ listing_of (record { said = said_by report.now; alarms = map alarm_view alarms.now; unwatched = unwatched.now })) }
 {
-    let mut out = String::new(heap);
+    let mut out = String::new(alloc);
     put_monitor(&mut out, report)?;
-    put_alarms(&mut out, alarms)?;
-    put_unwatched(&mut out, unwatched)?;
+    put_lines(&mut out, alarms)?;
+    put_lines(&mut out, unwatched)?;
     put_last(&mut out, report, unwatched.len())?;
     Ok(out)
+}
+
+// A log's listing, with 64 places in each book.
+pub fn listed(alloc: Global, log: &[u8]) -> Result<String, AllocError>
+    ensures { IfOk result (λ s. string_bytes s ≡ listing_of (replay_of (record { alarms = 64; unwatched = 64 }) log.now)) }
+{
+    let mut alarm_places = [Alarm::default(); 64];
+    let mut unwatched_places = [Unwatched::default(); 64];
+    let mut alarms = Book::new(&mut alarm_places);
+    let mut unwatched = Book::new(&mut unwatched_places);
+    let report = replay(log, &mut alarms, &mut unwatched);
+    listing(alloc, &report, alarms.entries(), unwatched.entries())
 }

@@ -1,216 +1,84 @@
 // The header, and the monitor that it asks for.
-ghost use Rattle.std.specs.Prelude.{◌≡◌, ◌≤◌, [], length};
+ghost use Rattle.std.specs.Prelude.{◌≡◌, IfOk, OnOk};
 ghost use Rattle.edetector.specs.Weights.{null_weights, alternative_weights};
-ghost use Rattle.plantlog.specs.Position.{position, log_of, left_in};
-ghost use Rattle.daybook.specs.Books.{entries_of, Keeps};
-ghost use Rattle.playback.specs.declared.report.Report.TheVariants.{Unmade as UnmadeReport};
-ghost use Rattle.playback.specs.Front.{settings_of, alternative_next};
-ghost use Rattle.playback.specs.Held.{places_in};
-ghost use Rattle.playback.specs.Replayed.{monitored, third, after_setup, after_table, replayed};
-ghost use Rattle.playback.specs.Stepping.{spot_of};
+ghost use Rattle.plantlog.specs.Results.{of_ok};
+ghost use Rattle.playback.specs.Front.{settings_of};
+ghost use Rattle.playback.specs.Held.{places_lent, NothingYet, KeepsBooks};
+ghost use Rattle.playback.specs.Replayed.{monitored, replayed, alternative_for};
+ghost use Rattle.playback.specs.Rest.{at_spot, behind_record};
 ghost use Rattle.playback.specs.Stream.{stream_of};
 ghost use Rattle.playback.specs.Told.{replay_told};
 
-use super::header::{alternative, setup, table};
-use super::progress::Progress;
-use super::report::{Report, Run};
+use super::books::Books;
+use super::header::header;
+use super::records::Records;
+use super::report::Run;
 use super::rule::ChosenRule;
-use super::stop::{Fault, ReplayFault};
+use super::stop::Fault;
 use super::watch::watch;
-use daybook::book::Book;
-use daybook::entry::alarm::Alarm;
-use daybook::entry::unwatched::Unwatched;
 use edetector::adaptive::Adaptive;
 use edetector::bettor::Bettor;
 use edetector::fixed::Fixed;
 use edetector::mixture::Mixture;
 use edetector::monitor::Monitor;
-use edetector::table::NullTable;
-use plantlog::reader::Reader;
+use edetector::table::{AlternativeTable, NullTable};
 use plantlog::record::{BettorChoice, Setup};
 
-// A fault before there is a monitor.
-fn unmade(cause: ReplayFault, record: usize, byte: usize) -> Report
-    ensures { result ≡ UnmadeReport (record { cause = cause; «record» = «record»; byte = byte }) }
-{
-    Report::Unmade(Fault {
-        cause,
-        record,
-        byte,
-    })
-}
+// A type for records and books before the first count would only wrap both, so three functions ask for `NothingYet`.
 
 // The monitor with tag 1 watches the rest of the log.
 fn run<B: Bettor + Drop>(
     bettor: B,
     null: NullTable,
     setup: Setup,
-    reader: &mut Reader<'_>,
-    len: usize,
-    buffer: &mut [u8],
-    alarms: &mut Book<'_, Alarm>,
-    unwatched: &mut Book<'_, Unwatched>,
-) -> Report
+    mut records: Records<'_>,
+    books: &mut Books<'_, '_, '_>,
+) -> Result<Run, Fault>
     requires table { B.nulls bettor ≡ null_weights null }
-    requires whole { len ≡ length (log_of reader.old) }
-    requires short { len ≤ 65536 }
-    requires buffer { 63 ≤ length buffer.old }
-    requires empty { (entries_of alarms.old ≡ []) × (entries_of unwatched.old ≡ []) }
-    ensures value { replay_told result alarms.new unwatched.new ≡ monitored (places_in alarms.old unwatched.old) (null_weights null) (settings_of setup) (B.strategy bettor) (stream_of (left_in reader.old)) (spot_of (position reader.old)) }
-    ensures places { places_in alarms.new unwatched.new ≡ places_in alarms.old unwatched.old }
-    ensures kept { Keeps alarms.old alarms.new × Keeps unwatched.old unwatched.new }
+    requires begins { NothingYet records books.old }
+    ensures value { replay_told result books.new.alarms.now books.new.unwatched.now ≡ monitored (places_lent books.old) (null_weights null) (settings_of setup) (B.strategy bettor) (stream_of records.entry.left) records.entry.at }
+    ensures kept { KeepsBooks books.old books.new }
 {
-    let record = reader.records() + 1;
-    let byte = reader.place();
-    match Monitor::new(bettor, ChosenRule(setup.rule), setup.threshold, 1) {
-        Ok(mut monitor) => {
-            let mut progress = Progress {
-                last: None,
-                counts: 0,
-            };
-            let fault = watch(
-                reader,
-                len,
-                buffer,
-                &mut monitor,
-                &mut progress,
-                alarms,
-                unwatched,
-            );
-            Report::Made(Run {
-                classes: null.classes(),
-                total: null.total(),
-                threshold: setup.threshold,
-                rule: setup.rule,
-                last: monitor.read(),
-                fault,
-            })
-        }
-        Err(back) => unmade(ReplayFault::Value(back.fault), record, byte),
-    }
+    let at = records.spot();
+    let rule = ChosenRule(setup.rule);
+    let made = Monitor::new(bettor, rule, setup.threshold, 1);
+    let mut monitor = made.map_err(|back| at.fault(back.fault.into()))?;
+    let fault = watch(&mut records, &mut monitor, books);
+    Ok(Run {
+        classes: null.classes(),
+        total: null.total(),
+        threshold: setup.threshold,
+        rule: setup.rule,
+        last: monitor.read(),
+        fault,
+    })
 }
 
-// A setup whose bettor needs an alternative.
-fn with_alternative(
-    null: NullTable,
-    setup: Setup,
-    reader: &mut Reader<'_>,
-    len: usize,
-    buffer: &mut [u8],
-    alarms: &mut Book<'_, Alarm>,
-    unwatched: &mut Book<'_, Unwatched>,
-) -> Report
-    requires whole { len ≡ length (log_of reader.old) }
-    requires short { len ≤ 65536 }
-    requires buffer { 63 ≤ length buffer.old }
-    requires empty { (entries_of alarms.old ≡ []) × (entries_of unwatched.old ≡ []) }
-    ensures value { replay_told result alarms.new unwatched.new ≡ third (places_in alarms.old unwatched.old) (null_weights null) (settings_of setup) (stream_of (left_in reader.old)) (spot_of (position reader.old)) (alternative_next (left_in reader.old)) }
-    ensures places { places_in alarms.new unwatched.new ≡ places_in alarms.old unwatched.old }
-    ensures kept { Keeps alarms.old alarms.new × Keeps unwatched.old unwatched.new }
+// The fixed bettor of the alternative in front.
+fn fixed(null: NullTable, records: &mut Records<'_>) -> Result<Fixed, Fault>
+    ensures value { of_ok (λ b. alternative_weights b.alternative) result ≡ at_spot records.old.at (alternative_for (null_weights null) records.old.left) }
+    ensures table { IfOk result (λ b. b.null ≡ null) }
+    ensures moved { OnOk result (records.new ≡ behind_record records.old) }
 {
-    let record = reader.records() + 1;
-    let byte = reader.place();
-    let alternative = match alternative(reader, buffer) {
-        Ok(alternative) => alternative,
-        Err(cause) => return unmade(cause, record, byte),
-    };
-    let fixed = match Fixed::new(null, alternative) {
-        Ok(fixed) => fixed,
-        Err(cause) => return unmade(ReplayFault::Value(cause), record, byte),
-    };
-    match setup.bettor {
-        BettorChoice::Fixed => run(fixed, null, setup, reader, len, buffer, alarms, unwatched),
-        _ => run(
-            Mixture::new(fixed, Adaptive::new(null)),
-            null,
-            setup,
-            reader,
-            len,
-            buffer,
-            alarms,
-            unwatched,
-        ),
-    }
-}
-
-// What follows the setup.
-fn with_setup(
-    null: NullTable,
-    setup: Setup,
-    reader: &mut Reader<'_>,
-    len: usize,
-    buffer: &mut [u8],
-    alarms: &mut Book<'_, Alarm>,
-    unwatched: &mut Book<'_, Unwatched>,
-) -> Report
-    requires whole { len ≡ length (log_of reader.old) }
-    requires short { len ≤ 65536 }
-    requires buffer { 63 ≤ length buffer.old }
-    requires empty { (entries_of alarms.old ≡ []) × (entries_of unwatched.old ≡ []) }
-    ensures value { replay_told result alarms.new unwatched.new ≡ after_setup (places_in alarms.old unwatched.old) (null_weights null) (settings_of setup) (stream_of (left_in reader.old)) (spot_of (position reader.old)) }
-    ensures places { places_in alarms.new unwatched.new ≡ places_in alarms.old unwatched.old }
-    ensures kept { Keeps alarms.old alarms.new × Keeps unwatched.old unwatched.new }
-{
-    match setup.bettor {
-        BettorChoice::Adaptive => run(
-            Adaptive::new(null),
-            null,
-            setup,
-            reader,
-            len,
-            buffer,
-            alarms,
-            unwatched,
-        ),
-        _ => with_alternative(null, setup, reader, len, buffer, alarms, unwatched),
-    }
-}
-
-// What follows the table.
-fn with_table(
-    null: NullTable,
-    reader: &mut Reader<'_>,
-    len: usize,
-    buffer: &mut [u8],
-    alarms: &mut Book<'_, Alarm>,
-    unwatched: &mut Book<'_, Unwatched>,
-) -> Report
-    requires whole { len ≡ length (log_of reader.old) }
-    requires short { len ≤ 65536 }
-    requires buffer { 63 ≤ length buffer.old }
-    requires empty { (entries_of alarms.old ≡ []) × (entries_of unwatched.old ≡ []) }
-    ensures value { replay_told result alarms.new unwatched.new ≡ after_table (places_in alarms.old unwatched.old) (null_weights null) (stream_of (left_in reader.old)) (spot_of (position reader.old)) }
-    ensures places { places_in alarms.new unwatched.new ≡ places_in alarms.old unwatched.old }
-    ensures kept { Keeps alarms.old alarms.new × Keeps unwatched.old unwatched.new }
-{
-    let record = reader.records() + 1;
-    let byte = reader.place();
-    match setup(reader, buffer) {
-        Ok(setup) => with_setup(null, setup, reader, len, buffer, alarms, unwatched),
-        Err(cause) => unmade(cause, record, byte),
-    }
+    let at = records.spot();
+    let alternative = header::<AlternativeTable>(records)?;
+    Fixed::new(null, alternative).map_err(|cause| at.fault(cause.into()))
 }
 
 // A log from its first record on.
-pub(super) fn open(
-    reader: &mut Reader<'_>,
-    len: usize,
-    buffer: &mut [u8],
-    alarms: &mut Book<'_, Alarm>,
-    unwatched: &mut Book<'_, Unwatched>,
-) -> Report
-    requires whole { len ≡ length (log_of reader.old) }
-    requires short { len ≤ 65536 }
-    requires buffer { 63 ≤ length buffer.old }
-    requires empty { (entries_of alarms.old ≡ []) × (entries_of unwatched.old ≡ []) }
-    ensures value { replay_told result alarms.new unwatched.new ≡ replayed (places_in alarms.old unwatched.old) (stream_of (left_in reader.old)) (spot_of (position reader.old)) }
-    ensures places { places_in alarms.new unwatched.new ≡ places_in alarms.old unwatched.old }
-    ensures kept { Keeps alarms.old alarms.new × Keeps unwatched.old unwatched.new }
+pub(super) fn open(mut records: Records<'_>, books: &mut Books<'_, '_, '_>) -> Result<Run, Fault>
+    requires begins { NothingYet records books.old }
+    ensures value { replay_told result books.new.alarms.now books.new.unwatched.now ≡ replayed (places_lent books.old) (stream_of records.entry.left) records.entry.at }
+    ensures kept { KeepsBooks books.old books.new }
 {
-    let record = reader.records() + 1;
-    let byte = reader.place();
-    match table(reader, buffer) {
-        Ok(null) => with_table(null, reader, len, buffer, alarms, unwatched),
-        Err(cause) => unmade(cause, record, byte),
+    let null = header::<NullTable>(&mut records)?;
+    let setup = header::<Setup>(&mut records)?;
+    match setup.bettor {
+        BettorChoice::Adaptive => run(Adaptive::new(null), null, setup, records, books),
+        BettorChoice::Fixed => run(fixed(null, &mut records)?, null, setup, records, books),
+        BettorChoice::Mixture => {
+            let mixture = Mixture::new(fixed(null, &mut records)?, Adaptive::new(null));
+            run(mixture, null, setup, records, books)
+        }
     }
 }

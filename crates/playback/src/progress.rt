@@ -1,5 +1,8 @@
-// How far a replay has come.
-#[derive(Clone, Copy)]
+// How far the counts have come.
+ghost use Rattle.std.specs.Prelude.{◌≡◌, ◌+◌, ◌<◌, Some};
+ghost use Rattle.daybook.specs.Books.{above};
+
+#[derive(Clone, Copy, Debug, PartialEq, Eq)]
 pub(super) struct Progress {
     // the last count's day
     pub(super) last: Option<u32>,
@@ -7,4 +10,20 @@ pub(super) struct Progress {
     pub(super) counts: usize,
 }
 
-pub(super) mod noted;
+impl Progress {
+    // Whether the day is above the last count's.
+    pub(super) fn before(&self, day: u32) -> bool
+        ensures { result ≡ above self.now.last day }
+    {
+        self.last.is_none_or(|last| last < day)
+    }
+
+    // A count of the day is dealt with, the last of so many records.
+    pub(super) fn noted(&mut self, day: u32, records: usize)
+        requires { self.old.counts < records }
+        ensures { self.new ≡ record { last = Some day; counts = self.old.counts + 1 } }
+    {
+        self.last = Some(day);
+        self.counts += 1;
+    }
+}

@@ -1,10 +1,10 @@
-// What a replay comes to.
+// What a replay comes to, once its monitor is made.
 use super::stop::Fault;
 use edetector::monitor::Reading;
 use plantlog::record::RuleChoice;
 
 // A replay whose monitor was made: the monitor, how it stands at last, and the fault that stopped the replay.
-#[derive(Clone, Copy)]
+#[derive(Clone, Copy, Debug, PartialEq, Eq)]
 pub struct Run {
     pub classes: usize,
     pub total: u32,
@@ -12,11 +12,4 @@ pub struct Run {
     pub rule: RuleChoice,
     pub last: Reading,
     pub fault: Option<Fault>,
-}
-
-#[derive(Clone, Copy)]
-pub enum Report {
-    // stopped before there was a monitor
-    Unmade(Fault),
-    Made(Run),
 }

@@ -9,7 +9,8 @@ use edetector::units::Base;
 use edetector::wealth::Wealth;
 use plantlog::record::RuleChoice;
 
-#[derive(Clone, Copy)]
+// One match a restart: chosen in `open`, the rule would make six kinds of monitor of three.
+#[derive(Clone, Copy, Debug, PartialEq, Eq)]
 pub(super) struct ChosenRule(pub(super) RuleChoice);
 
 impl RestartRule for ChosenRule {

@@ -9,7 +9,7 @@ use plantlog::fault::RecordFault;
 
 pub mod tells;
 
-#[derive(Clone, Copy)]
+#[derive(Clone, Copy, Debug, PartialEq, Eq)]
 pub enum ReplayFault {
     Record(RecordFault),
     Value(ValueFault),
@@ -28,7 +28,7 @@ pub enum ReplayFault {
 }
 
 // A fault with the record, from 1, and the byte, from 0, where that record begins or would begin.
-#[derive(Clone, Copy)]
+#[derive(Clone, Copy, Debug, PartialEq, Eq)]
 pub struct Fault {
     pub cause: ReplayFault,
     pub record: usize,

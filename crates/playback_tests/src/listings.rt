@@ -2,8 +2,7 @@
 use daybook::book::Book;
 use daybook::entry::alarm::Alarm;
 use daybook::entry::unwatched::Unwatched;
-use edetector::wealth::Wealth;
-use playback::listing::listing;
+use playback::listing::{listed, listing};
 use playback::replay::replay;
 use std::alloc::{AllocError, Global};
 use std::test::Fail;
@@ -19,25 +18,19 @@ const FOUR_DAYS: [u8; 34] = [
     6, 4,
 ];
 
-fn listed(heap: Global, log: &[u8]) -> Result<String, AllocError> {
-    let Some(ledger) = Wealth::new(0) else {
-        return unreachable();
-    };
-    let mut alarm_places = [Alarm {
-        day: 0,
-        round: 0,
-        ledger,
-    }; 2];
-    let mut unwatched_places = [Unwatched { day: 0, record: 0 }; 2];
+// The listing with two places in each book.
+fn briefly(alloc: Global, log: &[u8]) -> Result<String, AllocError> {
+    let mut alarm_places = [Alarm::default(); 2];
+    let mut unwatched_places = [Unwatched::default(); 2];
     let mut alarms = Book::new(&mut alarm_places);
     let mut unwatched = Book::new(&mut unwatched_places);
     let report = replay(log, &mut alarms, &mut unwatched);
-    listing(heap, &report, alarms.entries(), unwatched.entries())
+    listing(alloc, &report, alarms.entries(), unwatched.entries())
 }
 
 #[test]
 fn three_days_ring_once(rt: HostRuntime) -> Result<(), Fail> {
-    let text = listed(rt.alloc(), &THREE_DAYS)?;
+    let text = briefly(rt.alloc(), &THREE_DAYS)?;
     assert_eq!(rt;
         text.as_str(),
         "monitor classes 2 total 4 threshold 4 rule S\nalarm round 3 day 3 wealth 8.66\nend rounds 3 alarms 1 unwatched 0\n"
@@ -49,7 +42,7 @@ fn three_days_ring_once(rt: HostRuntime) -> Result<(), Fail> {
 fn a_day_twice_is_a_fault(rt: HostRuntime) -> Result<(), Fail> {
     let mut log = THREE_DAYS;
     log[21] = 1;
-    let text = listed(rt.alloc(), &log)?;
+    let text = briefly(rt.alloc(), &log)?;
     assert_eq!(rt;
         text.as_str(),
         "monitor classes 2 total 4 threshold 4 rule S\nfault 43 record 5 byte 19 layer replay\n"
@@ -59,7 +52,7 @@ fn a_day_twice_is_a_fault(rt: HostRuntime) -> Result<(), Fail> {
 
 #[test]
 fn a_day_after_the_alarm_is_unwatched(rt: HostRuntime) -> Result<(), Fail> {
-    let text = listed(rt.alloc(), &FOUR_DAYS)?;
+    let text = briefly(rt.alloc(), &FOUR_DAYS)?;
     assert_eq!(rt;
         text.as_str(),
         "monitor classes 2 total 4 threshold 4 rule S\nalarm round 3 day 3 wealth 8.66\nunwatched day 4 record 7\nend rounds 3 alarms 1 unwatched 1\n"
@@ -69,7 +62,7 @@ fn a_day_after_the_alarm_is_unwatched(rt: HostRuntime) -> Result<(), Fail> {
 
 #[test]
 fn an_empty_log_has_no_table(rt: HostRuntime) -> Result<(), Fail> {
-    let text = listed(rt.alloc(), &[])?;
+    let text = briefly(rt.alloc(), &[])?;
     assert_eq!(rt; text.as_str(), "fault 45 record 1 byte 0 layer record\n");
     Ok(())
 }
@@ -77,7 +70,15 @@ fn an_empty_log_has_no_table(rt: HostRuntime) -> Result<(), Fail> {
 #[test]
 fn a_log_of_65537_bytes_is_not_taken(rt: HostRuntime) -> Result<(), Fail> {
     let log = [0u8; 65537];
-    let text = listed(rt.alloc(), &log)?;
+    let text = briefly(rt.alloc(), &log)?;
     assert_eq!(rt; text.as_str(), "fault 48 record 0 byte 0 layer replay\n");
+    Ok(())
+}
+
+#[test]
+fn a_log_is_listed_with_64_places(rt: HostRuntime) -> Result<(), Fail> {
+    let text = listed(rt.alloc(), &FOUR_DAYS)?;
+    let brief = briefly(rt.alloc(), &FOUR_DAYS)?;
+    assert_eq!(rt; text.as_str(), brief.as_str());
     Ok(())
 }

@@ -1,12 +1,7 @@
 // Reads a log from standard input and prints the listing of its replay.
 #![tactic(auto)]
 
-use daybook::book::Book;
-use daybook::entry::alarm::Alarm;
-use daybook::entry::unwatched::Unwatched;
-use edetector::wealth::Wealth;
-use playback::listing::listing;
-use playback::replay::replay;
+use playback::listing::listed;
 use std::io;
 use std::io::Read;
 
@@ -22,19 +17,7 @@ fn input(rt: &HostRuntime) -> io::Result<Vec<u8>> {
 
 fn main(rt: HostRuntime) -> anyhow::Result<()> {
     let log = input(&rt)?;
-    let Some(ledger) = Wealth::new(0) else {
-        return unreachable();
-    };
-    let mut alarm_places = [Alarm {
-        day: 0,
-        round: 0,
-        ledger,
-    }; 64];
-    let mut unwatched_places = [Unwatched { day: 0, record: 0 }; 64];
-    let mut alarms = Book::new(&mut alarm_places);
-    let mut unwatched = Book::new(&mut unwatched_places);
-    let report = replay(log.as_slice(), &mut alarms, &mut unwatched);
-    let text = listing(rt.alloc(), &report, alarms.entries(), unwatched.entries())?;
+    let text = listed(rt.alloc(), log.as_slice())?;
     print!(rt; "{text}")?;
     Ok(())
 }

@@ -7,31 +7,22 @@
 use daybook::book::Book;
 use daybook::entry::alarm::Alarm;
 use daybook::entry::unwatched::Unwatched;
-use edetector::wealth::Wealth;
 use plantlog::reader::Reader;
 use plantlog::record::Kind;
 use playback::replay::replay;
-use playback::report::Report;
 use std::env;
 use std::io::Read;
 use std::time::Instant;
 
 // The rounds of a replay, with 64 places in each book.
 fn rounds_of(log: &[u8]) -> u64 {
-    let Some(ledger) = Wealth::new(0) else {
-        return unreachable();
-    };
-    let mut alarm_places = [Alarm {
-        day: 0,
-        round: 0,
-        ledger,
-    }; 64];
-    let mut unwatched_places = [Unwatched { day: 0, record: 0 }; 64];
+    let mut alarm_places = [Alarm::default(); 64];
+    let mut unwatched_places = [Unwatched::default(); 64];
     let mut alarms = Book::new(&mut alarm_places);
     let mut unwatched = Book::new(&mut unwatched_places);
     match replay(log, &mut alarms, &mut unwatched) {
-        Report::Made(run) => u64::from(run.last.rounds),
-        Report::Unmade(_) => 0,
+        Ok(run) => u64::from(run.last.rounds),
+        Err(_) => 0,
     }
 }
 
@@ -48,33 +39,21 @@ fn move_past(reader: &mut Reader<'_>, buffer: &mut [u8]) -> bool {
 fn records_of(log: &[u8]) -> u64 {
     let mut reader = Reader::new(log);
     let mut buffer = [0u8; 63];
-    for _ in 0..log.len() {
-        if !move_past(&mut reader, &mut buffer) {
-            break;
-        }
-    }
-    reader.records() as u64
+    (0..log.len())
+        .take_while(|_| move_past(&mut reader, &mut buffer))
+        .count() as u64
 }
 
-fn repeated(log: &[u8], reads: bool, times: u32) -> u64 {
-    let mut sum: u64 = 0;
-    for _ in 0..times {
-        let one = if reads {
-            records_of(log)
-        } else {
-            rounds_of(log)
-        };
-        sum = sum.wrapping_add(one);
-    }
-    sum
+// What `count` gives for the log, added up over so many times.
+fn repeated<F: Fn(&[u8]) -> u64>(log: &[u8], times: u32, count: F) -> u64
+    requires { F.IsAlwaysCallable count }
+{
+    (0..times).fold(0, |sum: u64, _| sum.wrapping_add(count(log)))
 }
 
 fn main(rt: HostRuntime) -> anyhow::Result<()> {
     let mut words = env::args(&rt)?.skip(1);
-    let reads = match words.next() {
-        Some(word) => word.as_str() == "read",
-        None => false,
-    };
+    let reads = words.next().is_some_and(|word| word.as_str() == "read");
     let times = match words.next() {
         Some(word) => word.as_str().parse::<u32>()?,
         None => 1,
@@ -82,7 +61,11 @@ fn main(rt: HostRuntime) -> anyhow::Result<()> {
     let mut log = Vec::new(rt.alloc());
     rt.stdin().read_to_end(&mut log)?;
     let begun = Instant::now(&rt)?;
-    let sum = repeated(log.as_slice(), reads, times);
+    let sum = if reads {
+        repeated(log.as_slice(), times, records_of)
+    } else {
+        repeated(log.as_slice(), times, rounds_of)
+    };
     let took = begun.elapsed(&rt)?.as_nanos();
     println!(rt; "{sum}")?;
     eprintln!(rt; "{took}")?;

@@ -3,9 +3,9 @@ ghost use Rattle.std.specs.Prelude.{◌≡◌, [], length};
 ghost use Rattle.edetector.specs.View.{Unchanged};
 ghost use Rattle.daybook.specs.Books.{entries_of, unused_of, places_of, all_used, last_key, above, enter_answer, entered, unused_after, Keeps};
 
-use super::super::entry::Dated;
-use super::super::fault::BookFault;
 use super::Book;
+use crate::entry::Dated;
+use crate::fault::BookFault;
 
 impl<'a, E: Dated + Copy> Book<'a, E> {
     // An empty book over the caller's places.
@@ -27,15 +27,14 @@ impl<'a, E: Dated + Copy> Book<'a, E> {
         ensures refused { Unchanged result self.old self.new }
         ensures lender { self.new.places.ghost_name ≡ self.old.places.ghost_name }
     {
-        let n = self.used;
-        if n >= self.places.len() {
+        if self.is_full() {
             return Err(BookFault::Full);
         }
         if !self.may_follow(&e) {
             return Err(BookFault::DayNotAbove);
         }
-        self.places[n] = e;
-        self.used = n + 1;
+        self.places[self.used] = e;
+        self.used += 1;
         Ok(())
     }
 
@@ -54,7 +53,7 @@ impl<'a, E: Dated + Copy> Book<'a, E> {
     pub fn entries(&self) -> &[E]
         ensures { result.now ≡ entries_of self.now }
     {
-        &self.places[0..self.used]
+        &self.places[..self.used]
     }
 
     // Leaves no entry; the places keep what they hold.
@@ -71,18 +70,8 @@ impl<'a, E: Dated + Copy> Book<'a, E> {
     fn may_follow(&self, e: &E) -> bool
         ensures { result ≡ above (last_key E.key (entries_of self.now)) (E.key e.now) }
     {
-        match self.last_day() {
-            Some(last) => last < e.day(),
-            None => true,
-        }
-    }
-
-    fn last_day(&self) -> Option<u32>
-        ensures { result ≡ last_key E.key (entries_of self.now) }
-    {
-        let [.., last] = self.entries() else {
-            return None;
-        };
-        Some(last.day())
+        self.entries()
+            .last()
+            .is_none_or(|last| last.day() < e.day())
     }
 }

@@ -2,7 +2,7 @@
 use super::Dated;
 use edetector::wealth::Wealth;
 
-#[derive(Clone, Copy)]
+#[derive(Clone, Copy, Debug, PartialEq, Eq, Default)]
 pub struct Alarm {
     pub day: u32,
     pub round: u32,

@@ -1,7 +1,7 @@
 // A day whose count was passed over, and the number of its record.
 use super::Dated;
 
-#[derive(Clone, Copy)]
+#[derive(Clone, Copy, Debug, PartialEq, Eq, Default)]
 pub struct Unwatched {
     pub day: u32,
     pub record: usize,

@@ -3,17 +3,16 @@ ghost use Rattle.std.specs.Prelude.{Some};
 ghost use Rattle.daybook.specs.Entries.{alarm_view};
 ghost use Rattle.daybook.specs.Lines.{alarm_line};
 
-use super::super::entry::alarm::Alarm;
 use super::wealth::InBets;
+use crate::entry::alarm::Alarm;
 use std::fmt;
 
 impl fmt::Display for Alarm {
     ghost output = { λ a. Some (alarm_line (alarm_view a)) };
 
     fn fmt<W: fmt::Write>(&self, f: &mut fmt::Formatter<W>) -> fmt::Result {
-        let round = self.round;
-        let day = self.day;
-        let wealth = InBets(self.ledger);
+        let Alarm { day, round, ledger } = *self;
+        let wealth = InBets(ledger);
         write!(f, "alarm round {round} day {day} wealth {wealth}")
     }
 }

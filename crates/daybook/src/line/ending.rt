@@ -4,7 +4,7 @@ ghost use Rattle.daybook.specs.Lines.{end_line};
 
 use std::fmt;
 
-#[derive(Clone, Copy)]
+#[derive(Clone, Copy, Debug, PartialEq, Eq)]
 pub struct EndLine {
     pub rounds: u32,
     pub alarms: usize,
@@ -15,9 +15,11 @@ impl fmt::Display for EndLine {
     ghost output = { λ e. Some (end_line e.rounds e.alarms e.unwatched) };
 
     fn fmt<W: fmt::Write>(&self, f: &mut fmt::Formatter<W>) -> fmt::Result {
-        let rounds = self.rounds;
-        let alarms = self.alarms;
-        let unwatched = self.unwatched;
+        let EndLine {
+            rounds,
+            alarms,
+            unwatched,
+        } = self;
         write!(
             f,
             "end rounds {rounds} alarms {alarms} unwatched {unwatched}"

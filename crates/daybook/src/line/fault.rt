@@ -2,14 +2,13 @@
 ghost use Rattle.std.specs.Prelude.{Some};
 ghost use Rattle.daybook.specs.Lines.{layer_text, fault_line};
 
+use plantlog::fault::Layer as LogLayer;
 use std::fmt;
 
 // The place of a check.
-#[derive(Clone, Copy)]
+#[derive(Clone, Copy, Debug, PartialEq, Eq)]
 pub enum Layer {
-    Value,
-    Number,
-    Record,
+    Log(LogLayer),
     Monitor,
     Book,
     Replay,
@@ -19,18 +18,18 @@ impl fmt::Display for Layer {
     ghost output = { λ l. Some (layer_text l) };
 
     fn fmt<W: fmt::Write>(&self, f: &mut fmt::Formatter<W>) -> fmt::Result {
-        match self {
-            Layer::Value => write!(f, "value"),
-            Layer::Number => write!(f, "number"),
-            Layer::Record => write!(f, "record"),
-            Layer::Monitor => write!(f, "monitor"),
-            Layer::Book => write!(f, "book"),
-            Layer::Replay => write!(f, "replay"),
-        }
+        f.write_str(match self {
+            Layer::Log(LogLayer::Value) => "value",
+            Layer::Log(LogLayer::Number) => "number",
+            Layer::Log(LogLayer::Record) => "record",
+            Layer::Monitor => "monitor",
+            Layer::Book => "book",
+            Layer::Replay => "replay",
+        })
     }
 }
 
-#[derive(Clone, Copy)]
+#[derive(Clone, Copy, Debug, PartialEq, Eq)]
 pub struct FaultLine {
     pub number: u8,
     pub record: usize,
@@ -42,10 +41,12 @@ impl fmt::Display for FaultLine {
     ghost output = { λ l. Some (fault_line l.number l.«record» l.byte l.layer) };
 
     fn fmt<W: fmt::Write>(&self, f: &mut fmt::Formatter<W>) -> fmt::Result {
-        let number = self.number;
-        let record = self.record;
-        let byte = self.byte;
-        let layer = self.layer;
+        let FaultLine {
+            number,
+            record,
+            byte,
+            layer,
+        } = self;
         write!(
             f,
             "fault {number} record {record} byte {byte} layer {layer}"

@@ -2,32 +2,30 @@
 ghost use Rattle.std.specs.Prelude.{Some};
 ghost use Rattle.daybook.specs.Lines.{rule_text, monitor_line};
 
+use plantlog::record::RuleChoice;
 use std::fmt;
 
-// A restart rule by its letter: S for Shiryaev and Roberts, P for Page.
-#[derive(Clone, Copy)]
-pub enum RuleLetter {
-    S,
-    P,
-}
+// A restart rule printed by its letter: S for Shiryaev and Roberts, P for Page.
+#[derive(Clone, Copy, Debug, PartialEq, Eq)]
+pub struct RuleLetter(pub RuleChoice);
 
 impl fmt::Display for RuleLetter {
-    ghost output = { λ r. Some (rule_text r) };
+    ghost output = { λ r. Some (rule_text r.0) };
 
     fn fmt<W: fmt::Write>(&self, f: &mut fmt::Formatter<W>) -> fmt::Result {
-        match self {
-            RuleLetter::S => write!(f, "S"),
-            RuleLetter::P => write!(f, "P"),
-        }
+        f.write_str(match self.0 {
+            RuleChoice::ShiryaevRoberts => "S",
+            RuleChoice::Page => "P",
+        })
     }
 }
 
-#[derive(Clone, Copy)]
+#[derive(Clone, Copy, Debug, PartialEq, Eq)]
 pub struct MonitorLine {
     pub classes: usize,
     pub total: u32,
     pub threshold: u32,
-    pub rule: RuleLetter,
+    pub rule: RuleChoice,
 }
 
 impl fmt::Display for MonitorLine {
@@ -40,9 +38,10 @@ impl fmt::Display for MonitorLine {
             threshold,
             rule,
         } = *self;
+        let letter = RuleLetter(rule);
         write!(
             f,
-            "monitor classes {classes} total {total} threshold {threshold} rule {rule}"
+            "monitor classes {classes} total {total} threshold {threshold} rule {letter}"
         )
     }
 }

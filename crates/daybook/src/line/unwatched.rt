@@ -2,15 +2,14 @@
 ghost use Rattle.std.specs.Prelude.{Some};
 ghost use Rattle.daybook.specs.Lines.{unwatched_line};
 
-use super::super::entry::unwatched::Unwatched;
+use crate::entry::unwatched::Unwatched;
 use std::fmt;
 
 impl fmt::Display for Unwatched {
     ghost output = { λ u. Some (unwatched_line u) };
 
     fn fmt<W: fmt::Write>(&self, f: &mut fmt::Formatter<W>) -> fmt::Result {
-        let day = self.day;
-        let record = self.record;
+        let Unwatched { day, record } = self;
         write!(f, "unwatched day {day} record {record}")
     }
 }

@@ -49,17 +49,17 @@ impl Bettor for Adaptive {
     }
 
     fn factor(&self, class: usize) -> Factor {
-        if class >= self.null.table.classes {
+        if class >= self.null.classes {
             return Factor(0);
         }
-        let w = self.null.table.weights[class];
+        let w = self.null.weights[class];
         let a = Weight(w.0 + self.counts[class]);
-        let whole = self.null.table.whole;
+        let whole = self.null.whole;
         likelihood_ratio(whole, whole + self.seen, w, a)
     }
 
     fn learn(&mut self, class: usize) {
-        if class < self.null.table.classes && self.seen < MOST_TALLIED {
+        if class < self.null.classes && self.seen < MOST_TALLIED {
             self.counts[class] += 1;
             self.seen += 1;
         }

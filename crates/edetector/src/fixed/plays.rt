@@ -1,6 +1,6 @@
 // How the fixed bettor is made, and what it plays.
 ghost use Rattle.std.specs.Prelude.{◌≡◌, ℕ, [], length, slice_index};
-ghost use Rattle.edetector.specs.Units.{factors_in};
+ghost use Rattle.edetector.specs.Units.{IsRow};
 ghost use Rattle.edetector.specs.Bettors.{fixed as plays};
 ghost use Rattle.edetector.specs.Pairs.{Paired};
 ghost use Rattle.edetector.specs.Weights.{null_weights, alternative_weights};
@@ -13,37 +13,34 @@ use super::super::table::{AlternativeTable, NullTable};
 use super::super::units::{Factor, Row, Weight};
 use super::super::value::ValueFault;
 use super::Fixed;
+use std::array;
 
 // The likelihood ratio of a class, or 0 past the last.
 fn ratio_at(null: &NullTable, alternative: &AlternativeTable, class: usize) -> Factor
-    requires { alternative.now.table.classes ≡ null.now.table.classes }
+    requires { alternative.now.classes ≡ null.now.classes }
     ensures { result.0 ≡ slice_index (plays (null_weights null.now) (alternative_weights alternative.now) []) class }
 {
-    if class >= null.table.classes {
+    if class >= null.classes {
         return Factor(0);
     }
-    let w = null.table.weights[class];
-    let a = alternative.table.weights[class];
-    likelihood_ratio(null.table.whole, alternative.table.whole, w, a)
+    let w = null.weights[class];
+    let a = alternative.weights[class];
+    likelihood_ratio(null.whole, alternative.whole, w, a)
 }
 
 // The likelihood ratios of all classes, with zeros behind them.
 fn ratios_of(null: &NullTable, alternative: &AlternativeTable) -> Row
-    requires { alternative.now.table.classes ≡ null.now.table.classes }
-    ensures { (k : ℕ) → slice_index (factors_in result) k ≡ slice_index (plays (null_weights null.now) (alternative_weights alternative.now) []) k }
+    requires { alternative.now.classes ≡ null.now.classes }
+    ensures { IsRow result (plays (null_weights null.now) (alternative_weights alternative.now) []) }
 {
-    let mut row = [Factor(0); 16];
-    for k in 0..16 {
-        row[k] = ratio_at(null, alternative, k);
-    }
-    row
+    array::from_fn(|k| ratio_at(null, alternative, k))
 }
 
 impl Fixed {
     pub fn new(null: NullTable, alternative: AlternativeTable) -> Result<Fixed, ValueFault>
         ensures { Paired null alternative result }
     {
-        if alternative.table.classes != null.table.classes {
+        if alternative.classes != null.classes {
             return Err(ValueFault::Alternative);
         }
         let row = ratios_of(&null, &alternative);
@@ -75,10 +72,7 @@ impl Bettor for Fixed {
     }
 
     fn factor(&self, class: usize) -> Factor {
-        if class >= 16 {
-            return Factor(0);
-        }
-        self.row[class]
+        self.row.get(class).copied().unwrap_or_default()
     }
 
     fn row(&self) -> Row {

@@ -1,38 +1,33 @@
-// How a monitor is made, and its five calls.
-ghost use Rattle.std.specs.Prelude.{◌≡◌, ℕ, ◌*◌, ◌/◌, ◌≤◌, List, [], length, slice_index};
-ghost use Rattle.edetector.specs.Units.{factors_in};
+// How a monitor is made, and its five calls. What each answers, leaves alone and does when it refuses is its own promise.
+ghost use Rattle.std.specs.Prelude.{◌≡◌, ◌*◌, ◌/◌, ◌≤◌, ◌↔◌, IsTrue, IsSome, IfSome};
+ghost use Rattle.edetector.specs.declared.monitor.phase.Phase.TheVariants.{Staked};
 ghost use Rattle.edetector.specs.Ledger.{outcome, fitting, staking, settling, withdrawing, rearming, reading};
 ghost use Rattle.edetector.specs.Plans.{Bound};
+ghost use Rattle.edetector.specs.Rules.{bet};
 ghost use Rattle.edetector.specs.View.{view, terms, terms_of, told_by, Made, Unchanged};
 
 use super::super::bettor::Bettor;
 use super::super::fault::{MonitorFault, Refused, Unmade};
 use super::super::rule::RestartRule;
 use super::super::slip::{OpenSlip, ShownSlip};
-use super::super::state::State;
 use super::super::table::reads::class_of;
-use super::super::units::{Base, Factor, Row};
+use super::super::units::{Base, Factor};
 use super::super::value::ValueFault;
-use super::super::wealth::Wealth;
+use super::super::wealth::{BET, Wealth};
+use super::phase::{Phase, Stake};
 use super::{Monitor, Reading};
 
 // A monitor stakes so many rounds at most.
 const MOST_ROUNDS: u32 = 1000000;
 
-// The row that is staked.
-fn staked_row<B: Bettor>(bettor: &B) -> Row
-    ensures { (k : ℕ) → slice_index (factors_in result) k ≡ slice_index (B.strategy bettor.now []) k }
-{
-    bettor.row()
-}
-
 // The ledger's step, the only place where a wealth meets a factor.
 fn grown(base: Base, factor: Factor) -> Wealth
-    requires { (base.0 ≤ 4296015872) × (factor.0 ≤ 268435456) }
+    requires low { base.0 ≤ 4097 * bet }
+    requires small { factor.0 ≤ 268435456 }
     ensures { result.parts ≡ (base.0 * factor.0) / 4096 }
 {
     Wealth {
-        parts: base.0 * (factor.0 as u64) / 4096,
+        parts: base.0 * u64::from(factor.0) / 4096,
     }
 }
 
@@ -42,26 +37,22 @@ impl<B: Bettor, R: RestartRule> Monitor<B, R> {
         ensures made { Made B.nulls B.strategy R.base bettor rule threshold tag result }
         ensures bound { Bound (terms (B.nulls bettor) (R.base rule) threshold tag) (B.strategy bettor) }
     {
-        if threshold < 1 || threshold > 4096 {
+        if !(1..=4096).contains(&threshold) {
             return Err(Unmade {
                 fault: ValueFault::Threshold,
                 bettor,
                 rule,
             });
         }
-        let Some(ledger) = Wealth::new(0) else {
-            return unreachable();
-        };
         Ok(Monitor {
             bettor,
             rule,
             threshold,
             tag,
-            state: State::Armed,
-            ledger,
+            phase: Phase::Armed,
+            ledger: Wealth::default(),
             rounds: 0,
             alarms: 0,
-            row: [Factor(0); 16],
         })
     }
 
@@ -71,15 +62,13 @@ impl<B: Bettor, R: RestartRule> Monitor<B, R> {
         ensures same { terms_of B.nulls R.base self.new ≡ terms_of B.nulls R.base self.old }
         ensures refused { Unchanged result self.old self.new }
     {
-        match self.state {
-            State::Armed => {}
-            _ => return Err(MonitorFault::NotArmed),
-        }
+        let Phase::Armed = self.phase else {
+            return Err(MonitorFault::NotArmed);
+        };
         if self.rounds >= MOST_ROUNDS {
             return Err(MonitorFault::Spent);
         }
-        self.row = staked_row(&self.bettor);
-        self.state = State::Staked;
+        self.phase = Phase::Staked(Stake::of(&self.bettor));
         Ok(OpenSlip {
             tag: self.tag,
             number: self.rounds + 1,
@@ -92,27 +81,28 @@ impl<B: Bettor, R: RestartRule> Monitor<B, R> {
         ensures same { terms_of B.nulls R.base self.new ≡ terms_of B.nulls R.base self.old }
         ensures refused { Unchanged result self.old self.new }
     {
-        if !self.waits_for(slip.tag, slip.number) {
+        let k = class_of(self.bettor.classes(), slip.count);
+        let Some(stake) = self.stake_for(slip.tag, slip.number) else {
             return Err(Refused {
                 fault: MonitorFault::Misfit,
                 slip,
             });
-        }
+        };
+        let factor = stake.factor(k);
         let ShownSlip {
             tag: _,
             number: _,
-            count,
+            count: _,
         } = slip;
-        let k = class_of(self.bettor.classes(), count);
-        self.ledger = grown(self.rule.restart(self.ledger), self.row[k]);
+        self.ledger = grown(self.rule.restart(self.ledger), factor);
         self.bettor.learn(k);
         self.rounds += 1;
-        let rang = self.ledger.parts >= (self.threshold as u64) * 1048576;
+        let rang = self.ledger.parts >= u64::from(self.threshold) * BET;
         if rang {
             self.alarms += 1;
-            self.state = State::Rung;
+            self.phase = Phase::Rung;
         } else {
-            self.state = State::Armed;
+            self.phase = Phase::Armed;
         }
         Ok(rang)
     }
@@ -122,14 +112,14 @@ impl<B: Bettor, R: RestartRule> Monitor<B, R> {
         ensures same { terms_of B.nulls R.base self.new ≡ terms_of B.nulls R.base self.old }
         ensures refused { Unchanged result self.old self.new }
     {
-        if !self.waits_for(slip.tag, slip.number) {
+        if self.stake_for(slip.tag, slip.number).is_none() {
             return Err(Refused {
                 fault: MonitorFault::Misfit,
                 slip,
             });
         }
         let OpenSlip { tag: _, number: _ } = slip;
-        self.state = State::Armed;
+        self.phase = Phase::Armed;
         Ok(())
     }
 
@@ -138,15 +128,11 @@ impl<B: Bettor, R: RestartRule> Monitor<B, R> {
         ensures same { terms_of B.nulls R.base self.new ≡ terms_of B.nulls R.base self.old }
         ensures refused { Unchanged result self.old self.new }
     {
-        match self.state {
-            State::Staked => return Err(MonitorFault::NotArmed),
-            _ => {}
+        if let Phase::Staked(_) = self.phase {
+            return Err(MonitorFault::NotArmed);
         }
-        let Some(none) = Wealth::new(0) else {
-            return unreachable();
-        };
-        self.ledger = none;
-        self.state = State::Armed;
+        self.ledger = Wealth::default();
+        self.phase = Phase::Armed;
         Ok(())
     }
 
@@ -154,19 +140,21 @@ impl<B: Bettor, R: RestartRule> Monitor<B, R> {
         ensures { outcome (told_by result) (view B.nulls B.strategy self.now) ≡ reading (terms_of B.nulls R.base self.now) (view B.nulls B.strategy self.now) }
     {
         Reading {
-            state: self.state,
+            state: self.phase.state(),
             ledger: self.ledger,
             rounds: self.rounds,
             alarms: self.alarms,
         }
     }
 
-    fn waits_for(&self, tag: u32, number: u32) -> bool
-        ensures { result ≡ fitting (terms_of B.nulls R.base self.now) (view B.nulls B.strategy self.now) tag number }
+    // The stake that a slip belongs to, if it is out.
+    fn stake_for(&self, tag: u32, number: u32) -> Option<&Stake>
+        ensures fits { IsSome result ↔ IsTrue (fitting (terms_of B.nulls R.base self.now) (view B.nulls B.strategy self.now) tag number) }
+        ensures staked { IfSome result (λ stake. self.now.phase ≡ Staked stake.now) }
     {
-        match self.state {
-            State::Staked => tag == self.tag && number == self.rounds + 1,
-            _ => false,
+        match &self.phase {
+            Phase::Staked(stake) if tag == self.tag && number == self.rounds + 1 => Some(stake),
+            _ => None,
         }
     }
 }

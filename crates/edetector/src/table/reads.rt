@@ -1,32 +1,30 @@
 // What a table holds.
 ghost use Rattle.std.specs.Prelude.{◌≡◌, length, slice_index};
 ghost use Rattle.edetector.specs.Tables.{total, class_of};
-ghost use Rattle.edetector.specs.Weights.{null_weights};
+ghost use Rattle.edetector.specs.Weights.{held_weights};
 
 use super::super::units::Weight;
-use super::NullTable;
+use super::Table;
 
-impl NullTable {
+impl<const LEAST: u32> Table<LEAST> {
     pub fn classes(&self) -> usize
-        ensures { result ≡ length (null_weights self.now) }
+        ensures { result ≡ length (held_weights self.now) }
     {
-        self.table.classes
+        self.classes
     }
 
     pub fn total(&self) -> u32
-        ensures { result ≡ total (null_weights self.now) }
+        ensures { result ≡ total (held_weights self.now) }
     {
-        self.table.whole
+        self.whole
     }
 
     // The weight of a class, or 0 past the last.
     pub fn weight(&self, class: usize) -> Weight
-        ensures { result.0 ≡ slice_index (null_weights self.now) class }
+        ensures { result.0 ≡ slice_index (held_weights self.now) class }
     {
-        if class >= self.table.classes {
-            return Weight(0);
-        }
-        self.table.weights[class]
+        let held = &self.weights[..self.classes];
+        held.get(class).copied().unwrap_or_default()
     }
 }
 

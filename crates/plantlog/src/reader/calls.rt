@@ -1,10 +1,11 @@
-// The calls of a reader. The receive buffer is zero after each, and a refused call leaves the reader as it was.
+// The calls of a reader. The receive buffer is zero after each, and a refused call leaves the reader as it was: each call says
+// so, as it is what each promises.
 ghost use Rattle.std.specs.Prelude.{◌≡◌, ℕ, ◌+◌, ◌-◌, ◌<◌, ◌≤◌, length, replicate, MatchResult};
 ghost use Rattle.plantlog.specs.Bytes.{zeros};
 ghost use Rattle.plantlog.specs.Results.{of_ok};
 ghost use Rattle.plantlog.specs.Views.{record_said, parsed_said};
 ghost use Rattle.plantlog.specs.Format.{kind_of};
-ghost use Rattle.plantlog.specs.Calls.{asked, no_count, only_count, next_count, next_other};
+ghost use Rattle.plantlog.specs.Calls.{asked, next_in, no_count, only_count, next_count, next_other};
 ghost use Rattle.plantlog.specs.Laws.{ReadBack, WrittenSo, LeftBehind, LogReadBack, LogWrittenSo, OneWriting};
 ghost use Rattle.plantlog.specs.Slips.{shown_to, fault_of};
 ghost use Rattle.plantlog.specs.Position.{position, log_of, left_in, moved};
@@ -14,45 +15,6 @@ use super::super::judge::{judge_next, none_left};
 use super::super::record::{Kind, Parsed, Record};
 use super::{Reader, Unshown};
 use edetector::slip::{OpenSlip, ShownSlip};
-
-fn kind_read(other: Record) -> Kind
-    ensures { result ≡ kind_of (record_said other) }
-{
-    match other {
-        Record::Table(_) => Kind::Table,
-        Record::Setup(_) => Kind::Setup,
-        Record::Alternative(_) => Kind::Alternative,
-        Record::Rearm => Kind::Rearm,
-        Record::End(_) => Kind::End,
-    }
-}
-
-fn kind_told(parsed: Parsed) -> Kind
-    ensures { result ≡ kind_of (parsed_said parsed) }
-{
-    match parsed {
-        Parsed::Count { day, count: _ } => Kind::Count(day),
-        Parsed::Other(other) => kind_read(other),
-    }
-}
-
-fn count_only(parsed: Parsed) -> Result<u32, RecordFault>
-    ensures { result ≡ only_count (parsed_said parsed) }
-{
-    match parsed {
-        Parsed::Count { day: _, count } => Ok(count),
-        Parsed::Other(_) => Err(RecordFault::WrongCall),
-    }
-}
-
-fn record_only(parsed: Parsed) -> Result<Record, RecordFault>
-    ensures { of_ok record_said result ≡ no_count (parsed_said parsed) }
-{
-    match parsed {
-        Parsed::Count { day: _, count: _ } => Err(RecordFault::WrongCall),
-        Parsed::Other(record) => Ok(record),
-    }
-}
 
 impl<'a> Reader<'a> {
     pub fn new(log: &'a [u8]) -> Reader<'a>
@@ -82,7 +44,28 @@ impl<'a> Reader<'a> {
             return none_left(buf);
         }
         let (parsed, _) = judge_next(&self.log[self.place..], buf)?;
-        Ok(Some(kind_told(parsed)))
+        Ok(Some(Kind::from(parsed)))
+    }
+
+    // Moves past the next record if `take` accepts it, and gives what it makes of it.
+    fn next<T, F: FnOnce(Parsed) -> Result<T, RecordFault>>(
+        &mut self,
+        buf: &mut [u8],
+        take: F,
+    ) -> Result<T, RecordFault>
+        requires { (p : _) → F.pre take p }
+        ensures zero { buf.new ≡ zeros buf.old }
+        ensures value { MatchResult (next_in (length buf.old) (left_in self.old))
+            (λ q. (p : _) × (parsed_said p ≡ q.0) × F.post take p result)
+            (λ e. result ≡ Err e) }
+        ensures moved { position self.new ≡ moved result (left_in self.old) (position self.old) }
+        ensures same { log_of self.new ≡ log_of self.old }
+    {
+        let (parsed, span) = judge_next(&self.log[self.place..], buf)?;
+        let taken = take(parsed)?;
+        self.place += span;
+        self.records += 1;
+        Ok(taken)
     }
 
     // Reads the next record, which is no count.
@@ -92,11 +75,7 @@ impl<'a> Reader<'a> {
         ensures moved { position self.new ≡ moved result (left_in self.old) (position self.old) }
         ensures same { log_of self.new ≡ log_of self.old }
     {
-        let (parsed, span) = judge_next(&self.log[self.place..], buf)?;
-        let record = record_only(parsed)?;
-        self.place += span;
-        self.records += 1;
-        Ok(record)
+        self.next(buf, Parsed::record)
     }
 
     // Moves past the next record, a count, and gives its number.
@@ -106,11 +85,7 @@ impl<'a> Reader<'a> {
         ensures moved { position self.new ≡ moved result (left_in self.old) (position self.old) }
         ensures same { log_of self.new ≡ log_of self.old }
     {
-        let (parsed, span) = judge_next(&self.log[self.place..], buf)?;
-        let count = count_only(parsed)?;
-        self.place += span;
-        self.records += 1;
-        Ok(count)
+        self.next(buf, Parsed::count)
     }
 
     // Shows the next record, a count, to an open slip. A refusal hands the slip back.

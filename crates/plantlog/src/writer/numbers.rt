@@ -1,19 +1,18 @@
 // The numbers of a table to be written.
-ghost use Rattle.std.specs.Prelude.{◌≡◌, ℕ, ◌+◌, ◌≤◌, List, ◌∷◌, length, take};
+ghost use Rattle.std.specs.Prelude.{◌≡◌, ℕ, ◌+◌, ◌≤◌, List, ◌∷◌, length};
 ghost use Rattle.edetector.specs.Units.{weights_in};
 
 use edetector::units::Weight;
 
 // A table's numbers: how many weights there are, and then each.
-pub(super) fn table_numbers(weights: &[Weight]) -> [u32; 17]
-    requires { length weights.now ≤ 16 }
-    ensures value { take (length weights.now + 1) result ≡ length weights.now ∷ weights_in weights.now }
-    ensures room { length result ≡ 17 }
+// A `zip` of the weights with the places behind the first was tried, and its proof did not close.
+pub(super) fn table_numbers(weights: &[Weight], numbers: &mut [u32])
+    requires few { length weights.now ≤ 16 }
+    requires room { length numbers.old ≡ length weights.now + 1 }
+    ensures { numbers.new ≡ length (weights_in weights.now) ∷ weights_in weights.now }
 {
-    let mut list = [0; 17];
-    list[0] = weights.len() as u32;
-    for k in 0..weights.len() {
-        list[k + 1] = weights[k].0;
+    numbers[0] = weights.len() as u32;
+    for (k, weight) in weights.iter().enumerate() {
+        numbers[k + 1] = weight.0;
     }
-    list
 }

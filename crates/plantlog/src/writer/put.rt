@@ -1,23 +1,23 @@
 // Numbers and records put into a buffer.
 ghost use Rattle.std.specs.Prelude.{◌≡◌, ℕ, ◌+◌, ◌-◌, ◌*◌, ◌≤◌, List, [], ◌∷◌, ◌++◌, length, drop};
+ghost use Rattle.plantlog.specs.Choices.{kind_number};
 ghost use Rattle.plantlog.specs.Format.{numbers_bytes, framed};
 ghost use Rattle.plantlog.specs.Laws.{Sayable};
 ghost use Rattle.plantlog.specs.Written.{room_judged, after_write};
 
 use super::super::fault::RecordFault;
 use super::super::number::{group_count, put_number};
+use super::super::record::Kind;
+
+// The most numbers of a record: how many weights a table has, and 16 of them.
+pub(super) const MOST_NUMBERS: usize = 17;
 
 // How many bytes the numbers take.
 fn numbers_size(numbers: &[u32]) -> usize
-    requires { length numbers.now ≤ 17 }
-    ensures value { result ≡ length (numbers_bytes numbers.now) }
-    ensures few { result ≤ 85 }
+    requires { length numbers.now ≤ MOST_NUMBERS }
+    ensures { result ≡ length (numbers_bytes numbers.now) }
 {
-    let mut size = 0;
-    for n in numbers {
-        size += group_count(*n);
-    }
-    size
+    numbers.iter().map(|n| group_count(*n)).sum()
 }
 
 // Writes the numbers at the front; the bytes behind them stay.
@@ -32,18 +32,18 @@ fn put_numbers(numbers: &[u32], out: &mut [u8])
 }
 
 // Writes a record at the front if it fits; the bytes behind it stay.
-pub(super) fn put_record(kind: u8, numbers: &[u32], out: &mut [u8]) -> Result<usize, RecordFault>
-    requires { length numbers.now ≤ 17 }
-    ensures value { result ≡ room_judged (length (framed (kind ∷ numbers_bytes numbers.now))) (length out.old) }
+pub(super) fn put_record(kind: Kind, numbers: &[u32], out: &mut [u8]) -> Result<usize, RecordFault>
+    requires { length numbers.now ≤ MOST_NUMBERS }
+    ensures value { result ≡ room_judged (length (framed (kind_number kind ∷ numbers_bytes numbers.now))) (length out.old) }
     ensures small { Sayable numbers.now }
-    ensures after { out.new ≡ after_write result (framed (kind ∷ numbers_bytes numbers.now)) out.old }
+    ensures after { out.new ≡ after_write result (framed (kind_number kind ∷ numbers_bytes numbers.now)) out.old }
 {
     let size = numbers_size(numbers) + 1;
     if out.len() < size + 1 {
         return Err(RecordFault::WriteBuffer);
     }
     out[0] = size as u8;
-    out[1] = kind;
+    out[1] = u8::from(kind);
     put_numbers(numbers, &mut out[2..]);
     Ok(size + 1)
 }

@@ -6,15 +6,15 @@ use super::ReplayFault;
 use daybook::line::fault::Layer;
 use plantlog::fault::Layer as LogLayer;
 
-impl ReplayFault {
-    pub fn number(self) -> u8
-        ensures { result ≡ stop_number self }
-    {
-        match self {
-            ReplayFault::Record(cause) => cause.number(),
-            ReplayFault::Value(cause) => cause.number(),
-            ReplayFault::Monitor(cause) => cause.number(),
-            ReplayFault::Book(cause) => cause.number(),
+impl From<ReplayFault> for u8 {
+    ghost from_gives = { λ fault n. n ≡ stop_number fault };
+
+    fn from(fault: ReplayFault) -> u8 {
+        match fault {
+            ReplayFault::Record(cause) => u8::from(cause),
+            ReplayFault::Value(cause) => u8::from(cause),
+            ReplayFault::Monitor(cause) => u8::from(cause),
+            ReplayFault::Book(cause) => u8::from(cause),
             ReplayFault::NotAllowed => 41,
             ReplayFault::DayNotAbove => 43,
             ReplayFault::CountsDiffer => 44,
@@ -22,17 +22,15 @@ impl ReplayFault {
             ReplayFault::TooLong => 48,
         }
     }
+}
 
+impl ReplayFault {
     pub fn layer(self) -> Layer
         ensures { result ≡ stop_layer self }
     {
         match self {
-            ReplayFault::Record(cause) => match cause.layer() {
-                LogLayer::Value => Layer::Value,
-                LogLayer::Number => Layer::Number,
-                LogLayer::Record => Layer::Record,
-            },
-            ReplayFault::Value(_) => Layer::Value,
+            ReplayFault::Record(cause) => Layer::Log(cause.layer()),
+            ReplayFault::Value(_) => Layer::Log(LogLayer::Value),
             ReplayFault::Monitor(_) => Layer::Monitor,
             ReplayFault::Book(_) => Layer::Book,
             _ => Layer::Replay,

@@ -1,18 +1,16 @@
-use Rattle.std.proofs.Common.{◌+◌, ◌/◌, ap₂, arith}
-use Rattle.edetector.proofs.Copying.{fill_more, fill_all, factor_at, average_at, average_past}
+-- Each of sixteen calls gives half the sum of two factors, and past them both rows have none.
+use Rattle.std.proofs.Common.{◌≡◌, ◌+◌, ◌/◌, get_or, refl, ap₂, ◌∙◌, arith, rules}
+use Rattle.edetector.proofs.Copying.{row_named, factor_at, average_at, average_past}
+use Rattle.edetector.proofs.FromFn.{made_each}
 use Rattle.edetector.proofs.mixture.averaged.Goals as goal
-
-pub overflow_add-row : goal.overflow_add-row
-overflow_add-row c =
-    let k = c.loop-k.k in
-    omega (arith, factor_at c.args.f k, factor_at c.args.g k, c.requires.f_small k, c.requires.g_small k)
-
-pub loop-k-preserved : goal.loop-k-preserved
-loop-k-preserved c =
-    let k = c.loop-k.k in
-    fill_more c.loop-k.row (average_at c.args.f c.args.g) k _ c.loop-k.invariant (omega arith)
-    (ap₂ (λ x y. (x + y) / 2) (factor_at c.args.f k) (factor_at c.args.g k))
 
 pub returns : goal.returns
 returns c =
-    fill_all c.loop-k.row (average_at c.args.f c.args.g) c.loop-k.k (omega arith) (average_past c.args.f c.args.g (omega arith) (omega arith)) c.loop-k.invariant
+    let f = c.args.f in
+    let g = c.args.g in
+    let made = c.from_fn.ensures.items in
+    let each =
+    made_each _ (λ s. (s.0.now ≡ f) × (s.1.now ≡ g)) (λ k y. y.0 ≡ ((get_or f k (record { 0 = 0 })).0 + (get_or g k (record { 0 = 0 })).0) / 2)
+    (λ s k y q same called. search rules) _ c.from_fn.result 0 16 (refl, refl) made.each in
+    row_named c.from_fn.result (average_at f g) made.long (average_past f g (omega arith) (omega arith))
+    (λ k d l h. each k d l h ∙ ap₂ (λ x y. (x + y) / 2) (factor_at f k) (factor_at g k))

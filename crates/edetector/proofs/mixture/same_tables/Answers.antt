@@ -1,15 +1,18 @@
-use Rattle.std.proofs.Common.{sym, ◌∙◌, arith}
-use Rattle.edetector.specs.Mixing.{apart_long, apart_at, alike}
+use Rattle.std.proofs.Common.{◌≡◌, ◌≢◌, get_or, refl, sym, ◌∙◌, arith, rules}
+use Rattle.std.proofs.lemmas.Iterator.{cases_from_all, YieldsList-from_range}
+use borrow.Author.Tests.{tests}
+use Rattle.edetector.proofs.SameTables.{apart_long, compared}
 use Rattle.edetector.proofs.mixture.same_tables.Goals as goal
 
 pub returns-then-n-classes : goal.returns-then-n-classes
 returns-then-n-classes g c =
     sym (apart_long (g.F.Bettor.nulls c.args.first.now) (g.S.Bettor.nulls c.args.second.now) (λ e. c.if-n-classes.true (c.classes-n.ensures ∙ e ∙ sym c.classes.ensures)))
 
-pub returns-then-weight : goal.returns-then-weight
-returns-then-weight g c =
-    sym (apart_at (g.F.Bettor.nulls c.args.first.now) (g.S.Bettor.nulls c.args.second.now) c.loop-k.k (λ e. c.if-weight.true (c.weight.ensures ∙ e ∙ sym c.weight-in-loop-k.ensures)))
-
 pub returns : goal.returns
 returns g c =
-    sym (alike (g.F.Bettor.nulls c.args.first.now) (g.S.Bettor.nulls c.args.second.now) (sym c.classes-n.ensures ∙ c.if-n-classes.false ∙ c.classes.ensures) (λ j h. c.loop-k.invariant j (omega (arith, h, c.classes-n.ensures, c.loop-k-test.false))))
+    let xs = g.F.Bettor.nulls c.args.first.now in
+    let ys = g.S.Bettor.nulls c.args.second.now in
+    let n = c.classes-n.result in
+    compared xs ys n (sym c.classes-n.ensures) (sym (c.if-n-classes.false ∙ c.classes.ensures)) c.all.result
+    (cases_from_all _ _ _ (λ k. get_or xs k 0 ≡ get_or ys k 0) (λ k. get_or xs k 0 ≢ get_or ys k 0) c.all.ensures.ran (YieldsList-from_range 0 n n refl (omega arith))
+    (λ k q called. search (rules, tests)) (λ k q called. search (rules, tests)))

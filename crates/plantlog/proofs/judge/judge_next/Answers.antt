@@ -7,7 +7,7 @@ use Rattle.plantlog.proofs.judge.judge_next.Goals as goal
 
 pub returns-in_err-body : goal.returns-in_err-body
 returns-in_err-body c =
-    let p = err_from_is_err_and c.from_residual.result c.from_residual.ensures.1 in
+    let p = err_from_is_err_and c.from_residual-in_err-body.result c.from_residual-in_err-body.ensures.1 in
     let wide : 63 ≤ length c.args.buf.now = omega arith in
     record {
       zero = search rules;

@@ -1,11 +1,7 @@
 use Rattle.std.proofs.Common.{◌-◌, sym, ◌∙◌, inl, inr, ⊎_elim, arith, rules}
 use borrow.Author.Tests.{clash}
-use Rattle.std.proofs.lemmas.Result.{err_from_is_err_and}
-use Rattle.plantlog.proofs.ReadGroups.{cut, ended, went_on, limit_step, limit_le}
+use Rattle.plantlog.proofs.ReadGroups.{ended, limit_le}
 use Rattle.plantlog.proofs.number.+read_groups.Goals as goal
-
-pub returns-in_default : goal.returns-in_default
-returns-in_default t c = record { value = cut c.args.more c.args.several c.args.bytes.now (search rules); small = tt }
 
 pub returns-then-more-eq0-2 : goal.returns-then-more-eq0-2
 returns-then-more-eq0-2 t c =
@@ -15,20 +11,8 @@ returns-then-more-eq0-2 t c =
     (λ e. ⊎_elim (λ w. omega (arith, w.1)) (λ w. absurd (clash (sym w ∙ e))) c.else-several.either) in
     record { value = e.0; small = e.1 }
 
-pub returns-in_err-n : goal.returns-in_err-n
-returns-in_err-n t c =
-    let p = err_from_is_err_and c.from_residual.result c.from_residual.ensures.1 in
-    rw (p.1, p.2) (record { value = went_on c.args.more c.args.several c.args.bytes.now c.from-b.result (search rules) (search rules) (search rules) (search rules) c.in_err-n.ensures.value; small = tt })
-
 pub overflow_mul-result : goal.overflow_mul-result
 overflow_mul-result t c = omega (arith, c.in_ok-n.ensures.small, limit_le (c.args.more - 1) (omega arith))
 
 pub overflow_add-result : goal.overflow_add-result
 overflow_add-result t c = omega (arith, c.in_ok-n.ensures.small, limit_le (c.args.more - 1) (omega arith), c.from-b.ensures, c.type_inv.bytes 0)
-
-pub returns : goal.returns
-returns t c =
-    record {
-      value = went_on c.args.more c.args.several c.args.bytes.now c.from-b.result (search rules) (search rules) (search rules) (search rules) c.in_ok-n.ensures.value;
-      small = omega (arith, c.in_ok-n.ensures.small, limit_step c.args.more (omega arith), c.from-b.ensures, c.type_inv.bytes 0);
-    }

@@ -6,4 +6,4 @@ use Rattle.plantlog.proofs.writer.write_rearm.Goals as goal
 pub returns : goal.returns
 returns c =
     let put = c.put_record.ensures in
-    wrote (Rearm) ([]) c.put_record.result c.put_record.new.out c.args.out.now refl refl put.small put.value put.after
+    wrote Rearm _ [] c.put_record.result c.put_record.new.out c.args.out.now refl refl refl put.small put.value put.after

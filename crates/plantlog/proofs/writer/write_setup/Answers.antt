@@ -7,4 +7,4 @@ pub returns : goal.returns
 returns c =
     let put = c.put_record.ensures in
     let a = c.args in
-    wrote (Setup a.threshold a.rule a.bettor) (a.threshold ∷ a.rule ∷ a.bettor ∷ []) c.put_record.result c.put_record.new.out a.out.now refl c.in_ok-judge_setup.ensures put.small put.value put.after
+    wrote (Setup a.threshold a.rule a.bettor) _ (a.threshold ∷ a.rule ∷ a.bettor ∷ []) c.put_record.result c.put_record.new.out a.out.now refl refl c.in_ok-judge_setup.ensures put.small put.value put.after

@@ -1,28 +1,68 @@
-use Rattle.std.proofs.Common.{◌+◌, refl, ap, ◌∙◌}
-use Rattle.edetector.specs.Weights.{null_weights}
-use Rattle.plantlog.specs.Position.{position, log_of, left_in}
-use Rattle.playback.specs.Held.{places_in}
-use Rattle.playback.specs.Stepping.{spot_of}
-use Rattle.playback.proofs.Opens.{left_after, first_taken, first_refused, none_told}
+use Rattle.std.proofs.Common.{eqb, Err, sym, ap, ◌∙◌, ap₂}
+use Rattle.std.proofs.lemmas.Result.{err_from_is_err_and}
+use Rattle.edetector.specs.declared.table.Table.{Table}
+use Rattle.edetector.specs.Bettors.{fixed, adaptive}
+use Rattle.edetector.specs.Weights.{null_weights, alternative_weights}
+use Rattle.plantlog.specs.declared.record.BettorChoice.{BettorChoice}
+use Rattle.plantlog.specs.Choices.{bettor_number}
+use Rattle.playback.specs.Front.{settings_of}
+use Rattle.playback.specs.Replayed.{with_alternative}
+use Rattle.playback.proofs.Opens.{unmade_told, header_taken, first_refused, second_refused, third_refused, first_taken, third_taken, goes_adaptive, mixed_plays}
 use Rattle.playback.proofs.open.open.Goals as goal
 
-pub returns-in-Ok : goal.returns-in-Ok
-returns-in-Ok c =
-    let rd = c.args.reader.now in
-    let rd' = c.table.new.reader in
-    let read = c.in-Ok.ensures in
-    record {
-      value = c.with_table.ensures.value ∙ first_taken (left_in rd) (position rd) (left_in rd') (position rd') read.moved (left_after (log_of rd) (log_of rd') (position rd) (position rd') read.moved read.log) (places_in c.args.alarms.now c.args.unwatched.now) (null_weights c.in-Ok.null) read.value;
-      places = c.with_table.ensures.places;
-      kept = c.with_table.ensures.kept;
-    }
+pub returns-in_err-null-clause-value : goal.returns-in_err-null-clause-value
+returns-in_err-null-clause-value c =
+    let x = err_from_is_err_and c.from_residual.result c.from_residual.ensures.1 in
+    unmade_told c.from_residual.result c.args.records c.args.books.now _ (x.1 ∙ ap Err x.2) c.requires.begins ∙ first_refused _ c.args.records _ c.in_err-null.ensures.value
 
-pub returns-in-Err : goal.returns-in-Err
-returns-in-Err c =
-    let rd = c.args.reader.now in
-    record {
-      value = none_told c.unmade.result c.args.alarms.now c.args.unwatched.now c.in-Err.cause (spot_of (position rd)) _ _ c.unmade.ensures (ap (λ n. n + 1) c.records-record.ensures) c.place-byte.ensures c.requires.empty.0 c.requires.empty.1
-          ∙ first_refused (places_in c.args.alarms.now c.args.unwatched.now) (left_in rd) (spot_of (position rd)) c.in-Err.cause c.in-Err.ensures.value;
-      places = refl;
-      kept = ((λ q h. h), (λ q h. h));
-    }
+pub returns-in_err-setup-clause-value : goal.returns-in_err-setup-clause-value
+returns-in_err-setup-clause-value c =
+    let x = err_from_is_err_and c.from_residual-in_err-setup.result c.from_residual-in_err-setup.ensures.1 in
+    unmade_told c.from_residual-in_err-setup.result c.args.records c.args.books.now _ (x.1 ∙ ap Err x.2) c.requires.begins ∙ second_refused _ c.header.new.records _ _ c.in_err-setup.ensures.value ∙ first_taken _ c.args.records _ c.in_ok-null.ensures.moved _ c.in_ok-null.ensures.value
+
+pub returns-in_err-fixed-in-Fixed-clause-value : goal.returns-in_err-fixed-in-Fixed-clause-value
+returns-in_err-fixed-in-Fixed-clause-value c =
+    let x = err_from_is_err_and c.from_residual-in_err-fixed-in-Fixed.result c.from_residual-in_err-fixed-in-Fixed.ensures.1 in
+    let other = ap (λ (b : BettorChoice). eqb (bettor_number b) 2) c.in-Fixed.is in
+    unmade_told c.from_residual-in_err-fixed-in-Fixed.result c.args.records c.args.books.now _ (x.1 ∙ ap Err x.2) c.requires.begins
+    ∙ third_refused _ c.header-2.new.records _ (settings_of c.in_ok-setup.setup) _ other c.in_err-fixed-in-Fixed.ensures.value
+    ∙ header_taken _ c.args.records c.header.new.records c.header-2.new.records c.in_ok-null.ensures.moved c.in_ok-setup.ensures.moved _ _ c.in_ok-null.ensures.value c.in_ok-setup.ensures.value
+
+pub returns-in_err-fixed-in-Mixture-clause-value : goal.returns-in_err-fixed-in-Mixture-clause-value
+returns-in_err-fixed-in-Mixture-clause-value c =
+    let x = err_from_is_err_and c.from_residual-in_err-fixed-in-Mixture.result c.from_residual-in_err-fixed-in-Mixture.ensures.1 in
+    let other = ap (λ (b : BettorChoice). eqb (bettor_number b) 2) c.in-Mixture.is in
+    unmade_told c.from_residual-in_err-fixed-in-Mixture.result c.args.records c.args.books.now _ (x.1 ∙ ap Err x.2) c.requires.begins
+    ∙ third_refused _ c.header-2.new.records _ (settings_of c.in_ok-setup.setup) _ other c.in_err-fixed-in-Mixture.ensures.value
+    ∙ header_taken _ c.args.records c.header.new.records c.header-2.new.records c.in_ok-null.ensures.moved c.in_ok-setup.ensures.moved _ _ c.in_ok-null.ensures.value c.in_ok-setup.ensures.value
+
+pub returns-in-Adaptive-clause-value : goal.returns-in-Adaptive-clause-value
+returns-in-Adaptive-clause-value c =
+    let n = c.in_ok-null.null in
+    let is = ap bettor_number c.in-Adaptive.is in
+    let plays = ap₂ (λ (x : Table 1) (y : _). adaptive (null_weights x) y) c.new.ensures.table c.new.ensures.fresh in
+    c.run.ensures.value ∙ goes_adaptive _ c.header-2.new.records (null_weights n) (settings_of c.in_ok-setup.setup) _ is plays
+    ∙ header_taken _ c.args.records c.header.new.records c.header-2.new.records c.in_ok-null.ensures.moved c.in_ok-setup.ensures.moved _ _ c.in_ok-null.ensures.value c.in_ok-setup.ensures.value
+
+pub returns-in_ok-fixed-in-Fixed-clause-value : goal.returns-in_ok-fixed-in-Fixed-clause-value
+returns-in_ok-fixed-in-Fixed-clause-value c =
+    let n = c.in_ok-null.null in
+    let f = c.in_ok-fixed-in-Fixed.field-0 in
+    let alts = alternative_weights f.alternative in
+    let other = ap (λ (b : BettorChoice). eqb (bettor_number b) 2) c.in-Fixed.is in
+    let plays = ap (λ (x : Table 1). fixed (null_weights x) alts) c.in_ok-fixed-in-Fixed.ensures.table ∙ sym (ap (λ (b : BettorChoice). with_alternative (bettor_number b) (null_weights n) alts) c.in-Fixed.is) in
+    c.run-in-Fixed.ensures.value
+    ∙ third_taken _ c.header-2.new.records c.fixed.new.records c.in_ok-fixed-in-Fixed.ensures.moved (null_weights n) (settings_of c.in_ok-setup.setup) alts _ other c.in_ok-fixed-in-Fixed.ensures.value plays
+    ∙ header_taken _ c.args.records c.header.new.records c.header-2.new.records c.in_ok-null.ensures.moved c.in_ok-setup.ensures.moved _ _ c.in_ok-null.ensures.value c.in_ok-setup.ensures.value
+
+pub returns-in_ok-fixed-in-Mixture-clause-value : goal.returns-in_ok-fixed-in-Mixture-clause-value
+returns-in_ok-fixed-in-Mixture-clause-value c =
+    let n = c.in_ok-null.null in
+    let f = c.in_ok-fixed-in-Mixture.field-0 in
+    let a = c.new-in-Mixture.result in
+    let alts = alternative_weights f.alternative in
+    let other = ap (λ (b : BettorChoice). eqb (bettor_number b) 2) c.in-Mixture.is in
+    let plays = mixed_plays c.new-mixture.result f a n c.new-mixture.ensures c.in_ok-fixed-in-Mixture.ensures.table c.new-in-Mixture.ensures.table c.new-in-Mixture.ensures.fresh ∙ sym (ap (λ (b : BettorChoice). with_alternative (bettor_number b) (null_weights n) alts) c.in-Mixture.is) in
+    c.run-in-Mixture.ensures.value
+    ∙ third_taken _ c.header-2.new.records c.fixed-in-Mixture.new.records c.in_ok-fixed-in-Mixture.ensures.moved (null_weights n) (settings_of c.in_ok-setup.setup) alts _ other c.in_ok-fixed-in-Mixture.ensures.value plays
+    ∙ header_taken _ c.args.records c.header.new.records c.header-2.new.records c.in_ok-null.ensures.moved c.in_ok-setup.ensures.moved _ _ c.in_ok-null.ensures.value c.in_ok-setup.ensures.value

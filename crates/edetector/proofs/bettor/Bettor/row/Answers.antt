@@ -1,15 +1,15 @@
-use Rattle.std.proofs.Common.{[], get_or, arith}
+-- Each of sixteen calls names a factor of the strategy's row now, which has none past them.
+use Rattle.std.proofs.Common.{◌≡◌, [], get_or, refl, arith, rules}
 use Rattle.std.proofs.lemmas.List.{get_or_past}
-use Rattle.edetector.proofs.Copying.{fill_more, fill_all}
+use Rattle.edetector.proofs.Copying.{row_named}
+use Rattle.edetector.proofs.FromFn.{made_each}
 use Rattle.edetector.proofs.bettor.Bettor.row.Goals as goal
-
-pub loop-k-preserved : goal.loop-k-preserved
-loop-k-preserved g c =
-    fill_more c.loop-k.row (λ k. get_or (g.Self.Bettor.strategy c.args.self.now []) k 0) c.loop-k.k c.factor.result c.loop-k.invariant (omega arith) c.factor.ensures
 
 pub returns : goal.returns
 returns g c =
     let b = c.args.self.now in
     let row = g.Self.Bettor.strategy b [] in
-    fill_all c.loop-k.row (λ k. get_or row k 0) c.loop-k.k (omega arith)
-    (λ k h. get_or_past row k 0 (omega (arith, h, (g.met.Self.Bettor.table b).few, g.met.Self.Bettor.whole b []))) c.loop-k.invariant
+    let made = c.from_fn.ensures.items in
+    row_named c.from_fn.result (λ k. get_or row k 0) made.long
+    (λ k h. get_or_past row k 0 (omega (arith, h, (g.met.Self.Bettor.table b).few, g.met.Self.Bettor.whole b [])))
+    (made_each _ (λ f. f.0.now ≡ b) (λ k y. y.0 ≡ get_or row k 0) (λ f k y q same called. search rules) _ c.from_fn.result 0 16 refl made.each)

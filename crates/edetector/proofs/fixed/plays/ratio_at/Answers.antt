@@ -1,5 +1,5 @@
 use Rattle.std.proofs.Common.{◌∙◌, arith}
-use Rattle.edetector.specs.Fixing.{null_light, null_some, alternative_part, factor_is, factor_past}
+use Rattle.edetector.proofs.FixedReads.{null_light, null_some, alternative_part, factor_is, factor_past}
 use Rattle.edetector.proofs.fixed.plays.ratio_at.Goals as goal
 
 pub returns-then-class-null : goal.returns-then-class-null
@@ -12,9 +12,9 @@ likelihood_ratio-requires c =
     let k = c.args.class in
     let h = c.if-class-null.false in
     record {
-      light = (null.table.light, (omega (arith, alternative.table.light), null_light null alternative c.requires k h));
+      light = (null.light, (omega (arith, alternative.light), null_light null alternative c.requires k h));
       part = alternative_part null alternative c.requires k h;
-      some = (alternative.table.heavy, null_some null alternative c.requires k h);
+      some = (alternative.heavy, null_some null alternative c.requires k h);
     }
 
 pub returns : goal.returns

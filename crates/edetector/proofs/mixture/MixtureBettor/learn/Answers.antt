@@ -1,5 +1,5 @@
 use Rattle.std.proofs.Common.{arith}
-use Rattle.edetector.specs.Mixing.{mix_learnt}
+use Rattle.edetector.proofs.MixedReads.{mix_learnt}
 use Rattle.edetector.proofs.mixture.MixtureBettor.learn.Goals as goal
 
 pub returns-then-class-classes : goal.returns-then-class-classes

@@ -1,15 +1,6 @@
-use Rattle.std.proofs.Common.{◌+◌, ◌/◌, [], sym, ◌∙◌, ap₂, arith}
-use Rattle.edetector.specs.Mixing.{mixed_at}
-use Rattle.edetector.proofs.Rows.{small_row}
+use Rattle.std.proofs.Common.{◌+◌, ◌/◌, [], sym, ◌∙◌, ap₂}
+use Rattle.edetector.proofs.MixedReads.{mixed_at}
 use Rattle.edetector.proofs.mixture.MixtureBettor.row.Goals as goal
-
-pub averaged-requires : goal.averaged-requires
-averaged-requires g c =
-    let m = c.args.self.now in
-    record {
-      f_small = λ k. omega (arith, c.row-row.ensures k, small_row _ _ (g.met.F.Bettor.table m.first) (g.met.F.Bettor.fair m.first []) (g.met.F.Bettor.whole m.first []) k);
-      g_small = λ k. omega (arith, c.row.ensures k, small_row _ _ (g.met.S.Bettor.table m.second) (g.met.S.Bettor.fair m.second []) (g.met.S.Bettor.whole m.second []) k);
-    }
 
 pub returns-then-same_tables : goal.returns-then-same_tables
 returns-then-same_tables g c =

@@ -1,10 +1,8 @@
-use Rattle.std.proofs.Common.{◌+◌, ◌<◌, get_or, refl, ◌∙◌, arith, length-set}
-use Rattle.edetector.specs.Tallies.{tally_of}
+use Rattle.std.proofs.Common.{◌+◌, get_or, refl, ◌∙◌, arith, length-set}
 use Rattle.edetector.specs.Weights.{null_weights}
 use Rattle.edetector.specs.Held.{null_long}
-use Rattle.edetector.specs.Tallying.{count_part, tally_more, learns, learns_nothing}
+use Rattle.edetector.proofs.TallyReads.{count_part, tally_more, learns}
 use Rattle.edetector.proofs.adaptive.plays.AdaptiveBettor.learn.Goals as goal
-use Rattle.edetector.proofs.adaptive.plays.AdaptiveBettor.learn.Goals.{else-class-self-via-then-class-self+else-self-lt-MOST_TALLIED, else-class-self-via-else-class-self}
 
 pub overflow_add-self : goal.overflow_add-self
 overflow_add-self c = omega (arith, count_part c.args.self.now c.args.class c.if-class-self.true, c.args.self.now.capped)
@@ -24,20 +22,6 @@ returns-then-self-lt-MOST_TALLIED c =
     let b = c.args.self.now in
     record {
       table = refl;
-      step = learns b.null.table.classes c.args.class b.seen (null_weights b.null) b.counts (null_long b.null) c.if-class-self.true c.if-self-lt-MOST_TALLIED.true;
+      step = learns b.null.classes c.args.class b.seen (null_weights b.null) b.counts (null_long b.null) c.if-class-self.true c.if-self-lt-MOST_TALLIED.true;
       same = λ past. absurd (omega (arith, past, null_long b.null, c.if-class-self.true));
-    }
-
-pub returns-else-class-self : goal.returns-else-class-self
-returns-else-class-self c =
-    let b = c.args.self.now in
-    let full : c.args.class < b.null.table.classes → b.seen < 1000000 → ⊥ =
-    λ within room. elim c.else-class-self.branch [
-      | else-class-self-via-then-class-self+else-self-lt-MOST_TALLIED w ↦ omega (arith, w.if-self-lt-MOST_TALLIED.false)
-      | else-class-self-via-else-class-self w ↦ omega (arith, w.if-class-self.false)
-    ] in
-    record {
-      table = refl;
-      step = learns_nothing b.null.table.classes c.args.class (null_weights b.null) (tally_of b) (null_long b.null) full;
-      same = λ past. refl;
     }

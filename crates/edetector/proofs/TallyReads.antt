@@ -1,0 +1,98 @@
+-- The adaptive bettor: what its own facts give at a class, and what one class learned does.
+use Rattle.std.specs.Prelude.{◌≡◌, ℕ, zero, suc, ◌+◌, ◌*◌, ◌/◌, ◌<◌, ◌≤◌, Bool, true, false, cond, ltb, List, [], length, take, set, replicate, ◌≢◌, nat_lt, slice_index, slice_index_or, slice_set, refl}
+use Rattle.std.proofs.Common.{sym, ap, ap₂, ◌∙◌, arith}
+use Rattle.std.proofs.lemmas.Bool.Decides.{nat_tests}
+use Rattle.std.proofs.Math.Seq.{take-set-lt}
+use Rattle.std.proofs.lemmas.List.{get_or-take, get_or_past, take-replicate}
+use Rattle.edetector.specs.declared.adaptive.Adaptive.{Adaptive}
+use Rattle.edetector.specs.Tables.{total}
+use Rattle.edetector.specs.Weights.{null_weights}
+use Rattle.edetector.specs.Bettors.{Strategy, learned, ratio, Tally, no_tally, one_more, tally_class, adaptive, plus}
+use Rattle.edetector.specs.Tallies.{tally_of}
+use Rattle.edetector.specs.Held.{null_long, is_null_table}
+use Rattle.edetector.specs.Adapting.{plus_long, total_set}
+use Rattle.edetector.specs.Tallying.{counts_long, adds, tally_long}
+use Rattle.edetector.proofs.Lists.{getD_le_total}
+use Rattle.edetector.proofs.Reading.{weight_read}
+use Rattle.edetector.proofs.RatiosAt.{ratios_at, plus_at}
+
+-- one class learned is one step of the strategy
+step_by : (ws : List ℕ) (b : Bool) (u t : Tally) →
+    ◌≡◌ {A = Strategy} (adaptive ws (cond b u t)) (cond b (λ later. adaptive ws (cond b u t) later) (adaptive ws t))
+step_by ws true u t = refl
+step_by ws false u t = refl
+
+pub adaptive_learns : (ws : List ℕ) (t : Tally) (k : ℕ) → ◌≡◌ {A = Strategy} (adaptive ws (tally_class ws t k)) (learned ws (adaptive ws t) k)
+adaptive_learns ws t k = step_by ws (nat_lt k (length ws)) (cond (nat_lt t.seen 1000000) (one_more t k) t) t
+
+total_none : (n : ℕ) → total (replicate n 0) ≡ 0
+total_none zero = refl
+total_none (suc n) = omega (arith, total_none n)
+
+pub total_zeros : (n : ℕ) → n ≤ 16 → total (take n (replicate 16 0)) ≡ 0
+total_zeros n h = ap total (take-replicate n 16 0 h) ∙ total_none n
+
+pub tally_zeros : (n m : ℕ) → n ≤ 16 → m ≡ n → ◌≡◌ {A = Tally} (record { counts = take n (replicate 16 0); seen = 0 }) (no_tally m)
+tally_zeros n m h e = let z : take n (replicate 16 0) ≡ replicate {A = ℕ} n 0 = take-replicate n 16 0 h in rw (e, z) refl
+
+tally_learns : (n k seen : ℕ) (ws cs : List ℕ) → length ws ≡ n → k < n → seen < 1000000 →
+    ◌≡◌ {A = Tally} (record { counts = take n (slice_set cs k (slice_index cs k + 1)); seen = seen + 1 }) (tally_class ws (record { counts = take n cs; seen = seen }) k)
+tally_learns n k seen ws cs long h room =
+    let below : ltb k (length ws) ≡ true = grind (arith, nat_tests) in
+    let left : ltb seen 1000000 ≡ true = grind (arith, nat_tests) in
+    let at : slice_index_or (take n cs) k 0 ≡ slice_index_or cs k 0 = get_or-take n cs k 0 h in
+    let moved = take-set-lt n cs k (slice_index cs k + 1) h in
+    rw (below, left, at, moved)
+
+pub learns : (n k seen : ℕ) (ws cs : List ℕ) → length ws ≡ n → k < n → seen < 1000000 →
+    ◌≡◌ {A = Strategy} (adaptive ws (record { counts = take n (slice_set cs k (slice_index cs k + 1)); seen = seen + 1 })) (learned ws (adaptive ws (record { counts = take n cs; seen = seen })) k)
+learns n k seen ws cs long h room =
+    ap (adaptive ws) (tally_learns n k seen ws cs long h room) ∙ adaptive_learns ws (record { counts = take n cs; seen = seen }) k
+
+-- nothing is learned of a class that is none, or when enough was seen
+nothing : (p q : Bool) (t : Tally) (k : ℕ) → (p ≡ true → q ≢ true) → ◌≡◌ {A = Tally} t (cond p (cond q (one_more t k) t) t)
+nothing true true t k h = absurd (h refl refl)
+nothing true false t k h = refl
+nothing false q t k h = refl
+
+pub learns_nothing : (n k : ℕ) (ws : List ℕ) (t : Tally) → length ws ≡ n → (k < n → t.seen < 1000000 → ⊥) →
+    ◌≡◌ {A = Strategy} (adaptive ws t) (learned ws (adaptive ws t) k)
+learns_nothing n k ws t long no_room =
+    ap (adaptive ws) (nothing (nat_lt k (length ws)) (nat_lt t.seen 1000000) t k (λ p q. no_room (grind (arith, nat_tests)) (grind (arith, nat_tests)))) ∙ adaptive_learns ws t k
+
+module _ (b : Adaptive) where
+  pub factor_past : (k : ℕ) → b.null.classes ≤ k → 0 ≡ slice_index (adaptive (null_weights b.null) (tally_of b) []) k
+  factor_past k h = sym (get_or_past (adaptive (null_weights b.null) (tally_of b) []) k 0 (omega (arith, tally_long b [], null_long b.null)))
+
+  -- the weight of a class, as the code reads it
+  abbrev pub null_at : ℕ → ℕ
+  null_at k = (slice_index_or b.null.weights k (record { 0 = 0 })).0
+
+  module _ (k : ℕ) (h : k < b.null.classes) where
+    null_is : null_at k ≡ slice_index (null_weights b.null) k
+    null_is = weight_read b.null k h
+
+    count_is : slice_index_or b.counts k 0 ≡ slice_index (take b.null.classes b.counts) k
+    count_is = sym (get_or-take b.null.classes b.counts k 0 h)
+
+    pub null_part : null_at k ≤ b.null.whole
+    null_part = omega (arith, null_is, getD_le_total (null_weights b.null) k, b.null.sums)
+
+    pub null_some : 1 ≤ null_at k
+    null_some = omega (arith, null_is, (is_null_table b.null).each k (omega (arith, null_long b.null)))
+
+    pub count_part : slice_index_or b.counts k 0 ≤ b.seen
+    count_part = omega (arith, count_is, getD_le_total (take b.null.classes b.counts) k, b.tallies)
+
+    pub factor_is : ratio b.null.whole (b.null.whole + b.seen) (null_at k) (null_at k + slice_index b.counts k) ≡ slice_index (adaptive (null_weights b.null) (tally_of b) []) k
+    factor_is =
+        let ws = null_weights b.null in
+        let cs = take b.null.classes b.counts in
+        let at = ratios_at (total ws) (total ws + b.seen) ws (plus ws cs) (plus_long ws cs (adds b).0) k (omega (arith, null_long b.null)) in
+        let top : slice_index_or (plus ws cs) k 0 ≡ null_at k + slice_index_or b.counts k 0 = plus_at ws cs (adds b).0 k (omega (arith, null_long b.null)) ∙ ap₂ (λ x y. x + y) (sym null_is) (sym count_is) in
+        sym (at ∙ ap₂ (λ x y. x / y) (ap₂ (λ x y. 4096 * x * y) top b.null.sums) (ap₂ (λ x y. (x + b.seen) * y) b.null.sums (sym null_is)))
+
+    pub tally_more : total (take b.null.classes (slice_set b.counts k (slice_index b.counts k + 1))) ≡ b.seen + 1
+    tally_more =
+        ap total (take-set-lt b.null.classes b.counts k (slice_index b.counts k + 1) h ∙ ap (λ v. set (take b.null.classes b.counts) k (v + 1)) count_is)
+        ∙ total_set (take b.null.classes b.counts) k (omega (arith, counts_long b)) ∙ ap (λ v. v + 1) b.tallies

@@ -1,0 +1,52 @@
+-- The weights of a lent slice, tested, added up and copied.
+use Rattle.std.specs.Prelude.{◌≡◌, ℕ, ◌+◌, ◌*◌, ◌<◌, ◌≤◌, true, false, List, [], ◌∷◌, All, length, take, sum_by, slice_index, slice_index_or, refl}
+use Rattle.std.proofs.Common.{ap, ◌∙◌, arith}
+use Rattle.std.proofs.lemmas.List.{length-map, take-map, get_or-take}
+use Rattle.std.proofs.lemmas.List.Elements.{All-from_get_or}
+use Rattle.std.proofs.lemmas.List.Sums.{sum_by-le, sum_by-cons}
+use Rattle.edetector.specs.declared.units.Weight.{Weight}
+use Rattle.edetector.specs.Units.{weights_in}
+use Rattle.edetector.specs.Tables.{total, weights_within}
+use Rattle.edetector.proofs.Lists.{number_at}
+use Rattle.edetector.proofs.Limits.{each_within}
+
+-- a weight within its limits
+abbrev pub Within : ℕ → ℕ → Type 0
+Within low n = (low ≤ n) × (n ≤ 65536)
+
+-- the weights of a lent slice, tested one by one
+module _ (low : ℕ) (xs : List Weight) where
+  at : (k : ℕ) → (slice_index_or xs k (record { 0 = 0 })).0 ≡ slice_index (weights_in xs) k
+  at k = number_at (λ w. w.0) (record { 0 = 0 }) refl xs k
+
+  pub units_each : All (λ w. Within low w.0) xs → (k : ℕ) → k < length xs → Within low (slice_index (weights_in xs) k)
+  units_each all k h = let here = all k (record { 0 = 0 }) h in (omega (arith, at k, here.0), omega (arith, at k, here.1))
+
+  within_units : weights_within low (weights_in xs) ≡ true → All (λ w. Within low w.0) xs
+  within_units e =
+      All-from_get_or (λ w. Within low w.0) xs (record { 0 = 0 })
+      (λ k h. let here = each_within low (weights_in xs) e k (omega (arith, length-map xs (λ w. w.0))) in (omega (arith, at k, here.0), omega (arith, at k, here.1)))
+
+  pub units_without : (All (λ w. Within low w.0) xs → ⊥) → weights_within low (weights_in xs) ≡ false
+  units_without broken = elim (weights_within low (weights_in xs)) as (λ b. weights_within low (weights_in xs) ≡ b → b ≡ false) [ true ↦ λ e. absurd (broken (within_units e)) | false ↦ λ e. refl ] refl
+
+-- the sum of the units is the total of their numbers, and small
+pub units_total : (xs : List Weight) → sum_by (λ w. w.0) xs ≡ total (weights_in xs)
+units_total [] = refl
+units_total (x ∷ xs) = sum_by-cons (λ w. w.0) x xs ∙ ap (λ n. x.0 + n) (units_total xs)
+
+pub units_light : (low : ℕ) (xs : List Weight) → length xs ≤ 16 → All (λ w. Within low w.0) xs → sum_by (λ w. w.0) xs < 4294967296
+units_light low xs few all =
+    let most : sum_by (λ w. w.0) xs ≤ length xs * 65536 = sum_by-le (λ w. w.0) 65536 xs (λ k d h. (all k d h).1) in
+    omega (arith, most, few)
+
+-- the weights copied to the front of an array
+module _ (ws held : List Weight) (front : take (length ws) held ≡ ws) where
+  pub padded_units : take (length ws) (weights_in held) ≡ weights_in ws
+  padded_units = take-map (λ w. w.0) (length ws) held ∙ ap weights_in front
+
+  pub padded_each : (low : ℕ) → All (λ w. Within low w.0) ws → (k : ℕ) → k < length ws → low ≤ slice_index (weights_in held) k
+  padded_each low all k h =
+      let here = units_each low ws all k h in
+      let same : slice_index (take (length ws) (weights_in held)) k ≡ slice_index (weights_in held) k = get_or-take (length ws) (weights_in held) k 0 h in
+      omega (arith, here.0, same, ap (λ l. slice_index l k) padded_units)

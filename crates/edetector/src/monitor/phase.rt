@@ -1,0 +1,53 @@
+// What a monitor is doing, and the row that a stake has copied.
+ghost use Rattle.std.specs.Prelude.{◌≡◌, ℕ, ◌<◌, ◌≤◌, [], length, take, slice_index};
+ghost use Rattle.edetector.specs.Units.{factors_in};
+
+use super::super::bettor::Bettor;
+use super::super::state::State;
+use super::super::units::{Factor, Row};
+
+#[derive(Drop)]
+pub struct Stake {
+    pub(super) row: Row,
+    ghost small: { (k : ℕ) → slice_index (factors_in row) k ≤ 268435456 },
+}
+
+#[derive(Drop)]
+pub enum Phase {
+    Armed,
+    Staked(Stake),
+    Rung,
+}
+
+impl Stake {
+    // The bettor's row now.
+    #[tactic(auto, using(crate::proofs::Rows::small_row, crate::proofs::Rows::row_copied))]
+    pub(super) fn of<B: Bettor>(bettor: &B) -> Self
+        ensures { take (length (B.nulls bettor.now)) (factors_in result.row) ≡ B.strategy bettor.now [] }
+    {
+        Stake { row: bettor.row() }
+    }
+
+    #[tactic(auto, using(crate::proofs::Copying::factor_at))]
+    pub(super) fn factor(&self, class: usize) -> Factor
+        requires { class < 16 }
+        ensures value { result.0 ≡ slice_index (factors_in self.now.row) class }
+        ensures small { result.0 ≤ 268435456 }
+    {
+        self.row[class]
+    }
+}
+
+impl Phase {
+    ghost use Rattle.edetector.specs.Phases.{state_of};
+
+    pub(super) fn state(&self) -> State
+        ensures { result ≡ state_of self.now }
+    {
+        match self {
+            Phase::Armed => State::Armed,
+            Phase::Staked(_) => State::Staked,
+            Phase::Rung => State::Rung,
+        }
+    }
+}

@@ -1,0 +1,24 @@
+// Where a record begins, or would begin.
+ghost use Rattle.std.specs.Prelude.{◌≡◌};
+
+use super::stop::{Fault, ReplayFault};
+
+// The record's number, from 1, and its first byte, from 0.
+#[derive(Clone, Copy, Debug, PartialEq, Eq)]
+pub(super) struct Spot {
+    pub(super) number: usize,
+    pub(super) byte: usize,
+}
+
+impl Spot {
+    // The fault of a cause there.
+    pub(super) fn fault(self, cause: ReplayFault) -> Fault
+        ensures { result ≡ record { cause = cause; «record» = self.number; byte = self.byte } }
+    {
+        Fault {
+            cause,
+            record: self.number,
+            byte: self.byte,
+        }
+    }
+}
