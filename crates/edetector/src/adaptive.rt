@@ -6,7 +6,8 @@ use super::table::NullTable;
 
 pub mod plays;
 
-// How often each class was learned stands beside the table and not in it, since the table stays as it was made.
+// How often each class was learned: a fixed array beside the table, since nothing here takes memory and the table stays as
+// it was made.
 #[derive(Drop)]
 pub struct Adaptive {
     pub(super) null: NullTable,

@@ -22,7 +22,7 @@ impl From<MonitorFault> for u8 {
     }
 }
 
-// A refused slip, handed back.
+// A refused slip, handed back. As one type with the log's `Unshown` each mention of either would have to name the fault.
 pub struct Refused<S> {
     pub fault: MonitorFault,
     pub slip: S,

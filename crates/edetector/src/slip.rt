@@ -8,7 +8,7 @@ pub struct OpenSlip {
     pub(super) number: u32,
 }
 
-// A stake with the count that was shown to it.
+// A stake with the count that was shown to it. Around an open slip, its tag and number would be no plainer to name.
 pub struct ShownSlip {
     pub(super) tag: u32,
     pub(super) number: u32,

@@ -1,4 +1,4 @@
-// What a monitor is doing.
+// What a monitor is doing, as it tells it: its own phase has the staked row besides, which a reading neither copies nor tells.
 #[derive(Clone, Copy, Debug, PartialEq, Eq)]
 pub enum State {
     // ready for a stake

@@ -52,7 +52,7 @@ fn judge_setup(threshold: u32, rule: u32, bettor: u32) -> Result<(), RecordFault
     Ok(())
 }
 
-// Rule and bettor are the numbers that the log has for them and not the two enums, which would ask callers for sound ones.
+// Rule and bettor are the numbers that the log has for them, here and in `judge_setup`: the two enums would ask more of callers.
 pub fn write_setup(
     threshold: u32,
     rule: u32,

@@ -58,6 +58,7 @@ fn print_next(rt: &HostRuntime, reader: &mut Reader, buf: &mut [u8]) -> io::Resu
 
 fn print_log(rt: &HostRuntime, log: &[u8], buf: &mut [u8]) -> io::Result<()> {
     let mut reader = Reader::new(log);
+    // one call for each of the six records, and one past the last: no index is counted
     for _ in 0..7 {
         print_next(rt, &mut reader, buf)?;
     }

@@ -8,7 +8,7 @@ pub(super) fn numbered<T: Drop, E: Into<u8>>(answer: Result<T, E>) -> Result<T, 
     answer.map_err(|fault| fault.into())
 }
 
-// The number of the refusal, if it is one.
+// The number of the refusal, if it is one: a line, as the library's tests have it.
 pub(super) fn refusal<T: Drop, E: Into<u8>>(answer: Result<T, E>) -> Option<u8> {
     numbered(answer).err()
 }

@@ -1,4 +1,6 @@
-// A count record: watched, or passed over while the alarm rings.
+// A count record: watched, or passed over while the alarm rings. Each of the two books is asked for a
+// place before the record is taken, and each function says what it leaves alone (`terms`, `kept`): one that did both would
+// take the record's two ways as closures.
 ghost use Rattle.std.specs.Prelude.{◌≡◌, Ok};
 ghost use Rattle.edetector.specs.View.{view, terms_of};
 ghost use Rattle.plantlog.specs.declared.record.Kind.TheVariants.{Count as ACount};

@@ -25,6 +25,7 @@ const LONGEST: usize = 65536;
 pub(super) struct Records<'a> {
     reader: Reader<'a>,
     buffer: [u8; 63],
+    // the log's length, which the reader does not tell
     len: usize,
     progress: Progress,
 }

@@ -18,7 +18,7 @@ const FOUR_DAYS: [u8; 34] = [
     6, 4,
 ];
 
-// The listing with two places in each book.
+// The listing with two places in each book, where `listed` has 64.
 fn briefly(alloc: Global, log: &[u8]) -> Result<String, AllocError> {
     let mut alarm_places = [Alarm::default(); 2];
     let mut unwatched_places = [Unwatched::default(); 2];

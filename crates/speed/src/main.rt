@@ -14,7 +14,7 @@ use std::env;
 use std::io::Read;
 use std::time::Instant;
 
-// The rounds of a replay, with 64 places in each book.
+// The rounds of a replay, with 64 places in each book. `listed` would have the listing timed too.
 fn rounds_of(log: &[u8]) -> u64 {
     let mut alarm_places = [Alarm::default(); 64];
     let mut unwatched_places = [Unwatched::default(); 64];

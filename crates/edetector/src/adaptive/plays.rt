@@ -40,6 +40,7 @@ impl Bettor for Adaptive {
 
     ghost fair = { λ b later. tally_fair b later };
 
+    // As a default, both would ask the trait for the table, which not every bettor has: no plainer than these two lines.
     fn classes(&self) -> usize {
         self.null.classes()
     }

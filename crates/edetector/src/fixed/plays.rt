@@ -63,6 +63,7 @@ impl Bettor for Fixed {
 
     ghost fair = { λ b later. fixed_fair b.null b.alternative b.level };
 
+    // As a default, both would ask the trait for the table, which not every bettor has: no plainer than these two lines.
     fn classes(&self) -> usize {
         self.null.classes()
     }

@@ -88,7 +88,7 @@ impl<'a> Reader<'a> {
         self.next(buf, Parsed::count)
     }
 
-    // Shows the next record, a count, to an open slip. A refusal hands the slip back.
+    // Shows the next record, a count, to an open slip. A refusal hands the slip back: for `?` two closures would have to own it.
     pub fn show(&mut self, slip: OpenSlip, buf: &mut [u8]) -> Result<ShownSlip, Unshown>
         ensures zero { buf.new ≡ zeros buf.old }
         ensures value { result ≡ shown_to slip (next_count (length buf.old) (left_in self.old)) }

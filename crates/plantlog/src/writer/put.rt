@@ -20,7 +20,8 @@ fn numbers_size(numbers: &[u32]) -> usize
     numbers.iter().map(|n| group_count(*n)).sum()
 }
 
-// Writes the numbers at the front; the bytes behind them stay.
+// Writes the numbers at the front; the bytes behind them stay. A `fold` over `at` is no plainer: where the next number begins is
+// what `put_number` answers.
 fn put_numbers(numbers: &[u32], out: &mut [u8])
     requires { length (numbers_bytes numbers.now) ≤ length out.old }
     ensures { out.new ≡ numbers_bytes numbers.now ++ drop (length (numbers_bytes numbers.now)) out.old }
