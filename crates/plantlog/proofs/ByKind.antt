@@ -1,7 +1,6 @@
 -- A body by its first byte.
 use Rattle.std.proofs.Common.{◌≡◌, ℕ, ◌-◌, ◌<◌, List, [], ◌∷◌, length, get_or, take, drop, Err, Result, sym, refl, ap, ◌∙◌, arith}
 use Rattle.std.proofs.lemmas.List.{take_rest}
-use Rattle.std.proofs.lemmas.Bool.{ne_eqb}
 use Rattle.plantlog.specs.declared.fault.RecordFault.{RecordFault}
 use Rattle.plantlog.specs.declared.fault.RecordFault.TheVariants.{UnknownKind}
 use Rattle.plantlog.specs.Format.{Fields}
@@ -18,15 +17,3 @@ pub no_body : (xs : List ℕ) → length xs < 1 → Err UnknownKind ≡ body_fie
 unfolding body_fields
 no_body [] none = refl
 no_body (x ∷ xs) none = absurd (omega arith)
-
-pub other_kind : (xs : List ℕ) → ((k : ℕ) → 0 < k → k < 7 → get_or xs 0 0 ≡ k → ⊥) → Err UnknownKind ≡ body_fields xs
-unfolding body_fields by_kind
-other_kind [] other = refl
-other_kind (x ∷ xs) other =
-    let a = ne_eqb x 1 (other 1 (omega arith) (omega arith)) in
-    let b = ne_eqb x 2 (other 2 (omega arith) (omega arith)) in
-    let d = ne_eqb x 3 (other 3 (omega arith) (omega arith)) in
-    let e = ne_eqb x 4 (other 4 (omega arith) (omega arith)) in
-    let f = ne_eqb x 5 (other 5 (omega arith) (omega arith)) in
-    let g = ne_eqb x 6 (other 6 (omega arith) (omega arith)) in
-    rw (a, b, d, e, f, g) refl

@@ -12,13 +12,17 @@ abbrev pub span : List ℕ → ℕ
 span [] = 0
 span (l ∷ bs) = l + 1
 
--- the next record, with a receive buffer of so many bytes
+-- what comes of a call with a receive buffer of so many bytes
+abbrev pub roomy : {X : Type 0} → ℕ → Result X RecordFault → Result X RecordFault
+roomy room r = cond (nat_le 63 room) r (Err ReceiveBuffer)
+
+-- the next record
 abbrev pub next_in : ℕ → List ℕ → Result (Fields × List ℕ) RecordFault
-next_in room left = cond (nat_le 63 room) (first_record left) (Err ReceiveBuffer)
+next_in room left = roomy room (first_record left)
 
 -- asking: the next record's kind, or that none is left
 abbrev pub asked : ℕ → List ℕ → Result (Option Kind) RecordFault
-asked room [] = cond (nat_le 63 room) (Ok None) (Err ReceiveBuffer)
+asked room [] = roomy room (Ok None)
 asked room (b ∷ bs) = of_ok (λ p. Some (kind_of p.0)) (next_in room (b ∷ bs))
 
 -- a record to be shown or passed over has to be a count

@@ -10,6 +10,7 @@ pub mod FirstRecord
 pub mod Views
 pub mod Calls
 pub mod Position
+pub mod InReader
 pub mod Slips
 pub mod Written
 pub mod Laws

@@ -4,12 +4,20 @@ ghost use Rattle.plantlog.specs.Bytes.{zeros};
 ghost use Rattle.plantlog.specs.Results.{of_ok};
 ghost use Rattle.plantlog.specs.FirstRecord.{front};
 ghost use Rattle.plantlog.specs.Views.{parsed_said};
-ghost use Rattle.plantlog.specs.Calls.{next_in, span, asked};
+ghost use Rattle.plantlog.specs.Calls.{next_in, span, roomy};
 
 use super::fault::RecordFault;
 use super::guard::{Guard, LONGEST_BODY};
 use super::parse::parse;
-use super::record::{Kind, Parsed};
+use super::record::Parsed;
+
+// A count that was judged whole, with the bytes that its record takes.
+#[derive(Clone, Copy, Debug, PartialEq, Eq)]
+pub(super) struct JudgedCount {
+    pub(super) day: u32,
+    pub(super) count: u32,
+    pub(super) span: usize,
+}
 
 // The body in front, by its length byte.
 fn front_body(left: &[u8]) -> Result<&[u8], RecordFault>
@@ -30,6 +38,7 @@ fn front_body(left: &[u8]) -> Result<&[u8], RecordFault>
 }
 
 // The record in front, and how many bytes it takes.
+#[inline(always)]
 pub(super) fn judge_next(left: &[u8], buf: &mut [u8]) -> Result<(Parsed, usize), RecordFault>
     ensures zero { buf.new ≡ zeros buf.old }
     ensures value { of_ok (λ p. (parsed_said p.0, drop p.1 left.now)) result ≡ next_in (length buf.old) left.now }
@@ -44,12 +53,11 @@ pub(super) fn judge_next(left: &[u8], buf: &mut [u8]) -> Result<(Parsed, usize),
     Ok((parsed, n + 1))
 }
 
-// What asking answers where no byte is left.
-pub(super) fn none_left(buf: &mut [u8]) -> Result<Option<Kind>, RecordFault>
+// Wipes the receive buffer for a call that judges nothing anew.
+pub(super) fn wiped(buf: &mut [u8]) -> Result<(), RecordFault>
     ensures zero { buf.new ≡ zeros buf.old }
-    ensures value { result ≡ asked (length buf.old) [] }
+    ensures value { result ≡ roomy (length buf.old) (Ok tt) }
 {
     let guard = Guard { buf };
-    guard.fits()?;
-    Ok(None)
+    guard.fits()
 }

@@ -1,8 +1,8 @@
 // A body taken apart by its kind byte.
-ghost use Rattle.std.specs.Prelude.{◌≡◌, ℕ, ◌-◌, ◌≤◌, length};
+ghost use Rattle.std.specs.Prelude.{◌≡◌, ◌≢◌, ℕ, ◌-◌, ◌≤◌, length};
 ghost use Rattle.plantlog.specs.Results.{of_ok};
 ghost use Rattle.plantlog.specs.Format.{Rearm as InRearm};
-ghost use Rattle.plantlog.specs.FirstRecord.{setup_fields, count_fields, end_fields, ended, body_fields};
+ghost use Rattle.plantlog.specs.FirstRecord.{setup_fields, count_fields, end_fields, ended, by_kind, body_fields};
 ghost use Rattle.plantlog.specs.Views.{parsed_said};
 
 use super::fault::RecordFault;
@@ -32,6 +32,7 @@ fn setup_fields(bytes: &[u8]) -> Result<Parsed, RecordFault>
 }
 
 #[tactic(auto, unfolding(crate::specs::FirstRecord::count_fields))]
+#[inline(always)]
 fn count_fields(bytes: &[u8]) -> Result<Parsed, RecordFault>
     ensures { of_ok parsed_said result ≡ count_fields bytes.now }
 {
@@ -59,17 +60,32 @@ fn rearm_fields(bytes: &[u8]) -> Result<Parsed, RecordFault>
     Ok(Parsed::Other(Record::Rearm))
 }
 
-// Kind bytes are told apart here and nowhere else: an enum in between would be made by this same match.
+// The kinds but a count's.
+#[tactic(auto, unfolding(crate::specs::FirstRecord::by_kind))]
+#[inline(never)]
+fn other_fields(kind: u8, rest: &[u8]) -> Result<Parsed, RecordFault>
+    requires { kind ≢ 4 }
+    ensures { of_ok parsed_said result ≡ by_kind kind rest.now }
+{
+    match kind {
+        1 => Ok(Parsed::Other(Record::Table(table(rest)?))),
+        2 => setup_fields(rest),
+        3 => Ok(Parsed::Other(Record::Alternative(table(rest)?))),
+        5 => rearm_fields(rest),
+        6 => end_fields(rest),
+        _ => Err(RecordFault::UnknownKind),
+    }
+}
+
+// Kind bytes are told apart here and above and nowhere else: an enum in between would be made by this same match. A log has
+// hardly any records but counts, which are taken apart without room for a table.
+#[inline(always)]
 pub(super) fn parse(body: &[u8]) -> Result<Parsed, RecordFault>
     ensures { of_ok parsed_said result ≡ body_fields body.now }
 {
     match body {
-        [1, rest @ ..] => Ok(Parsed::Other(Record::Table(table(rest)?))),
-        [2, rest @ ..] => setup_fields(rest),
-        [3, rest @ ..] => Ok(Parsed::Other(Record::Alternative(table(rest)?))),
         [4, rest @ ..] => count_fields(rest),
-        [5, rest @ ..] => rearm_fields(rest),
-        [6, rest @ ..] => end_fields(rest),
-        _ => Err(RecordFault::UnknownKind),
+        [kind, rest @ ..] => other_fields(*kind, rest),
+        [] => Err(RecordFault::UnknownKind),
     }
 }

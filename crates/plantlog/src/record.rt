@@ -3,6 +3,7 @@ ghost use Rattle.std.specs.Prelude.{◌≡◌};
 ghost use Rattle.plantlog.specs.Choices.{rule_number, bettor_number, kind_number, NamesRule, NamesBettor};
 
 use super::fault::RecordFault;
+use super::judge::JudgedCount;
 use edetector::table::{AlternativeTable, NullTable};
 
 pub(super) const LARGEST_THRESHOLD: u32 = 4096;
@@ -151,7 +152,10 @@ impl From<Parsed> for Kind {
 }
 
 impl Parsed {
+    ghost use Rattle.std.specs.Prelude.{Err, MatchOption};
+    ghost use Rattle.plantlog.specs.declared.fault.RecordFault.TheVariants.{WrongCall};
     ghost use Rattle.plantlog.specs.Results.{of_ok};
+    ghost use Rattle.plantlog.specs.Format.{Count as CountSaid};
     ghost use Rattle.plantlog.specs.Calls.{no_count, only_count};
     ghost use Rattle.plantlog.specs.Views.{record_said, parsed_said};
 
@@ -162,6 +166,18 @@ impl Parsed {
         match self {
             Parsed::Count { count, .. } => Ok(count),
             Parsed::Other(_) => Err(RecordFault::WrongCall),
+        }
+    }
+
+    // What is kept of a count of so many bytes.
+    pub(super) fn judged(self, span: usize) -> Option<JudgedCount>
+        ensures { MatchOption result
+            (only_count (parsed_said self) ≡ Err WrongCall)
+            (λ j. (parsed_said self ≡ CountSaid j.day j.count) × (j.span ≡ span)) }
+    {
+        match self {
+            Parsed::Count { day, count } => Some(JudgedCount { day, count, span }),
+            Parsed::Other(_) => None,
         }
     }
 

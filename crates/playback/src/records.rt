@@ -91,6 +91,7 @@ impl<'a> Records<'a> {
     }
 
     // The next record's kind. It does not move on.
+    #[inline(always)]
     pub(super) fn next_kind(&mut self) -> Result<Kind, ReplayFault>
         ensures value { result ≡ of_ok kind_of (next_fields self.old.left) }
         ensures same { self.new ≡ self.old }

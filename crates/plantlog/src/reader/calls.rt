@@ -5,13 +5,13 @@ ghost use Rattle.plantlog.specs.Bytes.{zeros};
 ghost use Rattle.plantlog.specs.Results.{of_ok};
 ghost use Rattle.plantlog.specs.Views.{record_said, parsed_said};
 ghost use Rattle.plantlog.specs.Format.{kind_of};
-ghost use Rattle.plantlog.specs.Calls.{asked, next_in, no_count, only_count, next_count, next_other};
+ghost use Rattle.plantlog.specs.Calls.{span, asked, next_in, no_count, only_count, next_count, next_other};
 ghost use Rattle.plantlog.specs.Laws.{ReadBack, WrittenSo, LeftBehind, LogReadBack, LogWrittenSo, OneWriting};
 ghost use Rattle.plantlog.specs.Slips.{shown_to, fault_of};
-ghost use Rattle.plantlog.specs.Position.{position, log_of, left_in, moved};
+ghost use Rattle.plantlog.specs.Position.{position, log_of, left_in, behind, moved};
 
 use super::super::fault::RecordFault;
-use super::super::judge::{judge_next, none_left};
+use super::super::judge::{JudgedCount, judge_next, wiped};
 use super::super::record::{Kind, Parsed, Record};
 use super::{Reader, Unshown};
 use edetector::slip::{OpenSlip, ShownSlip};
@@ -31,23 +31,41 @@ impl<'a> Reader<'a> {
             log,
             place: 0,
             records: 0,
+            judged: None,
         }
     }
 
     // Judges the next record whole and tells its kind, or that none is left, and does not move on.
+    #[inline(always)]
     pub fn ask(&mut self, buf: &mut [u8]) -> Result<Option<Kind>, RecordFault>
         ensures zero { buf.new ≡ zeros buf.old }
         ensures value { result ≡ asked (length buf.old) (left_in self.old) }
         ensures same { self.new ≡ self.old }
     {
         if self.place == self.log.len() {
-            return none_left(buf);
+            wiped(buf)?;
+            return Ok(None);
         }
-        let (parsed, _) = judge_next(&self.log[self.place..], buf)?;
+        let (parsed, span) = judge_next(&self.log[self.place..], buf)?;
+        self.judged = parsed.judged(span);
         Ok(Some(Kind::from(parsed)))
     }
 
+    // Moves past the record in front, of so many bytes.
+    fn move_past(&mut self, taken: usize)
+        requires whole { taken ≡ span (left_in self.old) }
+        requires within { taken ≤ length (left_in self.old) }
+        requires some { 1 ≤ taken }
+        ensures moved { position self.new ≡ behind (left_in self.old) (position self.old) }
+        ensures same { log_of self.new ≡ log_of self.old }
+    {
+        self.place += taken;
+        self.records += 1;
+        self.judged = None;
+    }
+
     // Moves past the next record if `take` accepts it, and gives what it makes of it.
+    #[inline(never)]
     fn next<T, F: FnOnce(Parsed) -> Result<T, RecordFault>>(
         &mut self,
         buf: &mut [u8],
@@ -63,8 +81,7 @@ impl<'a> Reader<'a> {
     {
         let (parsed, span) = judge_next(&self.log[self.place..], buf)?;
         let taken = take(parsed)?;
-        self.place += span;
-        self.records += 1;
+        self.move_past(span);
         Ok(taken)
     }
 
@@ -85,6 +102,11 @@ impl<'a> Reader<'a> {
         ensures moved { position self.new ≡ moved result (left_in self.old) (position self.old) }
         ensures same { log_of self.new ≡ log_of self.old }
     {
+        if let Some(JudgedCount { count, span, .. }) = self.judged {
+            wiped(buf)?;
+            self.move_past(span);
+            return Ok(count);
+        }
         self.next(buf, Parsed::count)
     }
 

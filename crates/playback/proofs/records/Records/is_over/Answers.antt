@@ -15,4 +15,4 @@ none_left place len log left is whole inside = (
 pub returns : goal.returns
 returns c =
     let rd = c.self.inside.reader in
-    none_left c.place.result c.self.inside.len (log_of rd) c.args.self.now.left (ap (λ n. drop n (log_of rd)) c.place.ensures ∙ ap (λ (r : Rest). r.left) c.self.view_is) c.self.invariant.whole (omega (arith, rd.inside, c.place.ensures))
+    none_left c.place.result c.self.inside.len (log_of rd) c.args.self.now.left (ap (λ n. drop n (log_of rd)) c.place.ensures.value ∙ ap (λ (r : Rest). r.left) c.self.view_is) c.self.invariant.whole c.place.ensures.inside
