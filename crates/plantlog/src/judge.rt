@@ -58,6 +58,5 @@ pub(super) fn wiped(buf: &mut [u8]) -> Result<(), RecordFault>
     ensures zero { buf.new ≡ zeros buf.old }
     ensures value { result ≡ roomy (length buf.old) (Ok tt) }
 {
-    let guard = Guard { buf };
-    guard.fits()
+    Guard { buf }.fits()
 }

@@ -1,6 +1,6 @@
 // The calls of a reader. The receive buffer is zero after each, and a refused call leaves the reader as it was: each call says
 // so, as it is what each promises.
-ghost use Rattle.std.specs.Prelude.{◌≡◌, ℕ, ◌+◌, ◌-◌, ◌<◌, ◌≤◌, length, replicate, MatchResult};
+ghost use Rattle.std.specs.Prelude.{◌≡◌, ℕ, ◌+◌, ◌-◌, ◌<◌, ◌≤◌, length, MatchResult};
 ghost use Rattle.plantlog.specs.Bytes.{zeros};
 ghost use Rattle.plantlog.specs.Results.{of_ok};
 ghost use Rattle.plantlog.specs.Views.{record_said, parsed_said};
@@ -115,7 +115,6 @@ impl<'a> Reader<'a> {
         ensures zero { buf.new ≡ zeros buf.old }
         ensures value { result ≡ shown_to slip (next_count (length buf.old) (left_in self.old)) }
         ensures moved { position self.new ≡ moved (fault_of result) (left_in self.old) (position self.old) }
-        ensures back { MatchResult result (λ s. (s.tag ≡ slip.tag) × (s.number ≡ slip.number)) (λ u. u.slip ≡ slip) }
         ensures same { log_of self.new ≡ log_of self.old }
     {
         match self.next_count(buf) {
