@@ -1,5 +1,5 @@
 -- What the reader's calls answer on the bytes that are left.
-use Rattle.std.specs.Prelude.{ℕ, ◌+◌, cond, List, [], ◌∷◌, Some, None, Ok, Err, Option, Result, nat_le}
+use Rattle.std.specs.Prelude.{ℕ, ◌+◌, if◌then◌else◌, List, [], ◌∷◌, Some, None, Ok, Err, Option, Result, nat_le}
 use Rattle.plantlog.specs.declared.fault.RecordFault.{RecordFault}
 use Rattle.plantlog.specs.declared.fault.RecordFault.TheVariants.{ReceiveBuffer, WrongCall}
 use Rattle.plantlog.specs.declared.record.Kind.{Kind}
@@ -14,7 +14,7 @@ span (l ∷ bs) = l + 1
 
 -- what comes of a call with a receive buffer of so many bytes
 abbrev pub roomy : {X : Type 0} → ℕ → Result X RecordFault → Result X RecordFault
-roomy room r = cond (nat_le 63 room) r (Err ReceiveBuffer)
+roomy room r = if nat_le 63 room then r else Err ReceiveBuffer
 
 -- the next record
 abbrev pub next_in : ℕ → List ℕ → Result (Fields × List ℕ) RecordFault

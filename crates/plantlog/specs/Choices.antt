@@ -1,5 +1,5 @@
 -- The number of each rule, bettor and kind.
-use Rattle.std.specs.Prelude.{◌≡◌, ℕ, cond, Ok, Err, Result}
+use Rattle.std.specs.Prelude.{◌≡◌, ℕ, if◌then◌else◌, Ok, Err, Result}
 use Rattle.edetector.specs.Tables.{from_to}
 use Rattle.plantlog.specs.declared.fault.RecordFault.{RecordFault}
 use Rattle.plantlog.specs.declared.fault.RecordFault.TheVariants.{UnknownChoice}
@@ -30,7 +30,7 @@ kind_number End = 6
 
 -- a number from 1 to the last, or it names no choice
 abbrev pub chosen : ℕ → ℕ → Result ℕ RecordFault
-chosen last n = cond (from_to 1 last n) (Ok n) (Err UnknownChoice)
+chosen last n = if from_to 1 last n then Ok n else Err UnknownChoice
 
 -- what a number gives for a rule: the rule of that number, or a refusal at any other
 abbrev pub NamesRule : ℕ → Result RuleChoice RecordFault → Type 0

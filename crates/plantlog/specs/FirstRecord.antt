@@ -1,5 +1,5 @@
 -- The record at the front of some bytes, or the first condition that refuses it.
-use Rattle.std.specs.Prelude.{ℕ, zero, suc, cond, List, [], ◌∷◌, length, take, drop, Ok, Err, Result, ◌==◌, nat_le}
+use Rattle.std.specs.Prelude.{ℕ, zero, suc, if◌then◌else◌, List, [], ◌∷◌, length, take, drop, Ok, Err, Result, ◌==◌, nat_le}
 use Rattle.edetector.specs.declared.value.ValueFault.TheVariants.{Classes, Weight, Total, Threshold}
 use Rattle.edetector.specs.Tables.{from_to, total}
 use Rattle.plantlog.specs.declared.number.NumberFault.{NumberFault}
@@ -19,7 +19,7 @@ any_field bs = of_number (first_number bs)
 
 -- a field that has to lie from low to high
 unfoldable pub field : ℕ → ℕ → RecordFault → List ℕ → Result (ℕ × List ℕ) RecordFault
-field low high fault bs = and_then (any_field bs) (λ n. cond (from_to low high n.0) (Ok n) (Err fault))
+field low high fault bs = and_then (any_field bs) (λ n. if from_to low high n.0 then Ok n else Err fault)
 
 -- k weights of at least low
 abbrev pub weights : ℕ → ℕ → List ℕ → Result (List ℕ × List ℕ) RecordFault
@@ -42,7 +42,7 @@ table_weights low bs = and_then (field 2 16 (Value Classes) bs) (λ k. weights l
 unfoldable pub table_fields : ℕ → List ℕ → Result (List ℕ) RecordFault
 table_fields low bs =
     and_then (table_weights low bs)
-    (λ ws. cond (from_to 1 65536 (total ws.0)) (ended ws.0 ws.1) (Err (Value Total)))
+    (λ ws. if from_to 1 65536 (total ws.0) then ended ws.0 ws.1 else Err (Value Total))
 
 unfoldable pub setup_fields : List ℕ → Result Fields RecordFault
 setup_fields bs =
@@ -60,12 +60,13 @@ end_fields bs = and_then (any_field bs) (λ n. ended (End n.0) n.1)
 -- the fields of a body, by its kind byte
 unfoldable pub by_kind : ℕ → List ℕ → Result Fields RecordFault
 by_kind kind rest =
-    cond (kind == 1) (of_ok Table (table_fields 1 rest))
-    (cond (kind == 2) (setup_fields rest)
-    (cond (kind == 3) (of_ok Alternative (table_fields 0 rest))
-    (cond (kind == 4) (count_fields rest)
-    (cond (kind == 5) (ended Rearm rest)
-    (cond (kind == 6) (end_fields rest) (Err UnknownKind))))))
+    if kind == 1 then of_ok Table (table_fields 1 rest)
+    else if kind == 2 then setup_fields rest
+    else if kind == 3 then of_ok Alternative (table_fields 0 rest)
+    else if kind == 4 then count_fields rest
+    else if kind == 5 then ended Rearm rest
+    else if kind == 6 then end_fields rest
+    else Err UnknownKind
 
 unfoldable pub body_fields : List ℕ → Result Fields RecordFault
 body_fields [] = Err UnknownKind
@@ -75,7 +76,9 @@ body_fields (kind ∷ rest) = by_kind kind rest
 unfoldable pub front : List ℕ → Result (List ℕ × List ℕ) RecordFault
 front [] = Err NoneLeft
 front (l ∷ bs) =
-    cond (from_to 1 63 l) (cond (nat_le l (length bs)) (Ok (take l bs, drop l bs)) (Err Truncated)) (Err LengthByte)
+    if from_to 1 63 l
+    then (if nat_le l (length bs) then Ok (take l bs, drop l bs) else Err Truncated)
+    else Err LengthByte
 
 -- the record in front and the bytes behind it
 unfoldable pub first_record : List ℕ → Result (Fields × List ℕ) RecordFault

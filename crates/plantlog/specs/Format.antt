@@ -1,5 +1,5 @@
 -- The records of the log and the bytes that say them.
-use Rattle.std.specs.Prelude.{ℕ, cond, List, [], ◌∷◌, ◌++◌, length, Some, None, Option}
+use Rattle.std.specs.Prelude.{ℕ, if◌then◌else◌, List, [], ◌∷◌, ◌++◌, length, Some, None, Option}
 use Rattle.edetector.specs.declared.value.ValueFault.{ValueFault}
 use Rattle.edetector.specs.declared.value.ValueFault.TheVariants.{Threshold}
 use Rattle.edetector.specs.Tables.{from_to, null_fault, alternative_fault}
@@ -62,7 +62,10 @@ of_value (Some f) = Some (Value f)
 -- the first limit that the fields break, left to right, or none
 abbrev pub fields_fault : Fields → Option RecordFault
 fields_fault (Table ws) = of_value (null_fault ws)
-fields_fault (Setup a r b) = cond (from_to 1 4096 a) (cond (from_to 1 2 r) (cond (from_to 1 3 b) None (Some UnknownChoice)) (Some UnknownChoice)) (Some (Value Threshold))
+fields_fault (Setup a r b) =
+    if from_to 1 4096 a
+    then (if from_to 1 2 r then (if from_to 1 3 b then None else Some UnknownChoice) else Some UnknownChoice)
+    else Some (Value Threshold)
 fields_fault (Alternative ws) = of_value (alternative_fault ws)
 fields_fault (Count day n) = None
 fields_fault Rearm = None

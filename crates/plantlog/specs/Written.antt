@@ -1,5 +1,5 @@
 -- What writing a record answers, and what the buffer holds then.
-use Rattle.std.specs.Prelude.{◌≡◌, ℕ, ◌≤◌, cond, List, ◌∷◌, ◌++◌, length, drop, IfOk, Some, None, Ok, Err, Option, Result, nat_le}
+use Rattle.std.specs.Prelude.{◌≡◌, ℕ, ◌≤◌, if◌then◌else◌, List, ◌∷◌, ◌++◌, length, drop, IfOk, Some, None, Ok, Err, Option, Result, nat_le}
 use Rattle.edetector.specs.Tables.{table_fault}
 use Rattle.plantlog.specs.FirstRecord.{first_record}
 use Rattle.plantlog.specs.declared.fault.RecordFault.{RecordFault}
@@ -18,7 +18,7 @@ fields_judged f = unless (fields_fault f)
 
 -- so many bytes into a buffer of so many, or it is too short
 abbrev pub room_judged : ℕ → ℕ → Result ℕ RecordFault
-room_judged long room = cond (nat_le long room) (Ok long) (Err WriteBuffer)
+room_judged long room = if nat_le long room then Ok long else Err WriteBuffer
 
 -- how many bytes were written, after the fields and last the buffer were judged
 abbrev pub write_answer : Fields → ℕ → Result ℕ RecordFault
