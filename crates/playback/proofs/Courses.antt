@@ -1,6 +1,6 @@
 -- Every replay has a course, and it leaves no record out.
-use Rattle.std.proofs.Common.{◌≡◌, ℕ, ◌+◌, ◌*◌, Bool, true, false, cond, ◌&&◌, eqb, ltb, leb, List, [], ◌∷◌, ◌++◌, length, None, Ok, Err, Option, Result, sym, refl, ap, ◌∙◌, subst, ap₂, inl, inr, append_assoc, arith}
-use Rattle.std.proofs.lemmas.List.{append-nil}
+use Rattle.std.proofs.Common.{◌≡◌, ℕ, ◌+◌, ◌-◌, ◌*◌, ◌<◌, Bool, true, false, cond, ◌&&◌, eqb, ltb, leb, List, [], ◌∷◌, ◌++◌, length, None, Ok, Err, Option, Result, sym, refl, ap, ◌∙◌, subst, ap₂, inl, inr, append_assoc, arith}
+use Rattle.std.proofs.lemmas.List.{append-nil, length-append}
 use Rattle.std.proofs.lemmas.Bool.{eqb-true}
 use Rattle.std.proofs.lemmas.Bool.Decides.{nat_tests}
 use Rattle.edetector.specs.declared.state.State.{State}
@@ -14,7 +14,7 @@ use Rattle.edetector.specs.Plans.{next}
 use Rattle.edetector.specs.Rules.{bet}
 use Rattle.edetector.specs.Tables.{class_of}
 use Rattle.edetector.specs.Bettors.{Strategy}
-use Rattle.edetector.specs.Ledger.{Terms, Standing, outcome, staked, settled, rings}
+use Rattle.edetector.specs.Ledger.{Terms, Standing, outcome, staked, settled, rings, rearming}
 use Rattle.edetector.specs.View.{standing}
 use Rattle.plantlog.specs.Format.{Fields, Table, Setup, Alternative, Count, Rearm, End}
 use Rattle.daybook.specs.declared.entry.unwatched.Unwatched.{Unwatched}
@@ -26,20 +26,22 @@ use Rattle.playback.specs.declared.stop.Fault.{Fault}
 use Rattle.plantlog.specs.declared.fault.RecordFault.TheVariants.{NoneLeft}
 use Rattle.daybook.specs.declared.fault.BookFault.TheVariants.{Full}
 use Rattle.playback.specs.Stream.{Stream, Over, Broken, Next}
-use Rattle.playback.specs.Watch.{Watch, Places, Done, taken, faulted, counted, alarm_if, Round, shown, watched, round_done, full, by_state, count_read, rearm_read}
+use Rattle.playback.specs.Watch.{Watch, Places, Done, faulted, counted, alarm_if, Round, shown, watched, round_done, full, passed, by_state, restood, count_read, rearm_read}
 use Rattle.playback.specs.Replaying.{Spot, behind, Finish, went, stopped, fault_at, at_end, watching}
-use Rattle.playback.specs.Course.{Event, Settled, Passed, Rearmed, after_event, after_all, alarm_of, alarms_of, unwatched_of, passed_in, is_count, Rightly, AllRightly, EventOf, behind_all, Reached, HasCourse, WholeCourse, HasWholeCourse}
+use Rattle.playback.specs.Course.{Event, Settled, Passed, Rearmed, after_event, after_all, alarm_of, alarms_of, unwatched_of, passed_in, day_of, days_of, RisingDays, last_day, free_in, free_after, Rightly, AllRightly, EventOf, behind_all, Reached, HasCourse, WholeCourse, HasWholeCourse}
 use Rattle.playback.proofs.Counting.{settled_fits}
 
 -- nothing more happens
-no_event : (t : Terms) (s : Stream) (at : Spot) (w : Watch) (x : Option Fault) → Reached (at.number + 0) w.counts s x → WholeCourse t s at w (stopped w x)
-no_event t s at w x to = record {
+no_event : (t : Terms) (p : Places) (s : Stream) (at : Spot) (w : Watch) (x : Option Fault) → Reached (at.number + 0) w.counts s x → WholeCourse t p s at w (stopped w x)
+no_event t p s at w x to = record {
   course = record {
     events = [];
     standing = refl;
     alarms = sym (append-nil w.alarms);
     unwatched = sym (append-nil w.unwatched);
     counts = omega arith;
+    last = refl;
+    rising = tt;
     rightly = tt;
     of_log = tt;
   };
@@ -47,29 +49,68 @@ no_event t s at w x to = record {
 }
 
 -- a record is not taken
-still : (t : Terms) (s : Stream) (at : Spot) (w : Watch) (f : ReplayFault) → WholeCourse t s at w (stopped w (fault_at at f))
-still t s at w f = no_event t s at w (fault_at at f) (inl (omega arith))
+still : (t : Terms) (p : Places) (s : Stream) (at : Spot) (w : Watch) (f : ReplayFault) → WholeCourse t p s at w (stopped w (fault_at at f))
+still t p s at w f = no_event t p s at w (fault_at at f) (inl (omega arith))
+
+-- what an event of a record makes of a watch
+record Leads (t : Terms) (p : Places) (f : Fields) (at : Spot) (w w1 : Watch) (e : Event) : Type 0 where
+  pub of : EventOf e f at.number
+  pub rightly : Rightly t (free_in p w) w.standing e
+  pub standing : w1.standing ≡ after_event t w.standing e
+  pub alarms : w1.alarms ≡ w.alarms ++ alarm_of t w.standing e
+  pub unwatched : w1.unwatched ≡ w.unwatched ++ passed_in e
+  pub counts : w1.counts ≡ w.counts + length (day_of e)
+  pub last : w1.last ≡ last_day w.last (day_of e)
+  pub rising : RisingDays w.last (day_of e)
+
+-- what is free behind more entries
+fewer : {X : Type 0} (n : ℕ) (xs ys zs : List X) → zs ≡ xs ++ ys → n - length zs ≡ n - length xs - length ys
+fewer n xs ys zs e = omega (arith, ap length e, length-append xs ys)
+
+frees : (t : Terms) (p : Places) (f : Fields) (at : Spot) (w w1 : Watch) (e : Event) → Leads t p f at w w1 e → free_in p w1 ≡ free_after t w.standing (free_in p w) e
+frees t p f at w w1 e l =
+    ap₂ (λ a u. record { alarms = a; unwatched = u }) (fewer p.alarms w.alarms (alarm_of t w.standing e) w1.alarms l.alarms) (fewer p.unwatched w.unwatched (passed_in e) w1.unwatched l.unwatched)
+
+-- the last day and the rising of days, day after day
+last_on : (last : Option ℕ) (e : Event) (days : List ℕ) → last_day (last_day last (day_of e)) days ≡ last_day last (day_of e ++ days)
+last_on last (Settled day count) days = refl
+last_on last (Passed day number) days = refl
+last_on last Rearmed days = refl
+
+rising_on : (last : Option ℕ) (e : Event) (days : List ℕ) → RisingDays last (day_of e) → RisingDays (last_day last (day_of e)) days → RisingDays last (day_of e ++ days)
+rising_on last (Settled day count) days here later = (here.0, later)
+rising_on last (Passed day number) days here later = (here.0, later)
+rising_on last Rearmed days here later = later
 
 -- one event, and then the rest
-begins : (t : Terms) (f : Fields) (n : ℕ) (rest : Stream) (at : Spot) (w w1 : Watch) (end : Finish) (e : Event) → EventOf e f → Rightly t w.standing e →
-    w1.standing ≡ after_event t w.standing e → w1.alarms ≡ w.alarms ++ alarm_of t w.standing e → w1.unwatched ≡ w.unwatched ++ passed_in e → w1.counts ≡ w.counts + is_count e →
-    WholeCourse t rest (behind at n) w1 end → WholeCourse t (Next f n rest) at w end
-begins t f n rest at w w1 end e of right es ea eu ec whole =
+begins : (t : Terms) (p : Places) (f : Fields) (n : ℕ) (rest : Stream) (at : Spot) (w w1 : Watch) (end : Finish) (e : Event) → Leads t p f at w w1 e →
+    WholeCourse t p rest (behind at n) w1 end → WholeCourse t p (Next f n rest) at w end
+begins t p f n rest at w w1 end e l whole =
     let c = whole.course in
+    let days = days_of c.events in
     record {
       course = record {
         events = e ∷ c.events;
-        standing = c.standing ∙ ap (λ s. after_all t s c.events) es;
-        alarms = c.alarms ∙ ap₂ (λ a s. a ++ alarms_of t s c.events) ea es ∙ append_assoc w.alarms (alarm_of t w.standing e) (alarms_of t (after_event t w.standing e) c.events);
-        unwatched = c.unwatched ∙ ap (λ u. u ++ unwatched_of c.events) eu ∙ append_assoc w.unwatched (passed_in e) (unwatched_of c.events);
-        counts = omega (arith, c.counts, ec);
-        rightly = (right, subst (λ (s : Standing). AllRightly t s c.events) es c.rightly);
-        of_log = (of, c.of_log);
+        standing = c.standing ∙ ap (λ s. after_all t s c.events) l.standing;
+        alarms = c.alarms ∙ ap₂ (λ a s. a ++ alarms_of t s c.events) l.alarms l.standing ∙ append_assoc w.alarms (alarm_of t w.standing e) (alarms_of t (after_event t w.standing e) c.events);
+        unwatched = c.unwatched ∙ ap (λ u. u ++ unwatched_of c.events) l.unwatched ∙ append_assoc w.unwatched (passed_in e) (unwatched_of c.events);
+        counts = omega (arith, c.counts, l.counts, length-append (day_of e) days);
+        last = c.last ∙ ap (λ x. last_day x days) l.last ∙ last_on w.last e days;
+        rising = rising_on w.last e days l.rising (subst (λ (x : Option ℕ). RisingDays x days) l.last c.rising);
+        rightly = (
+          l.rightly,
+          subst (λ (free : Places). AllRightly t free (after_event t w.standing e) c.events) (frees t p f at w w1 e l) (subst (λ (s : Standing). AllRightly t (free_in p w1) s c.events) l.standing c.rightly),
+        );
+        of_log = (l.of, c.of_log);
       };
       reached =
           let longer : at.number + 1 + length c.events ≡ at.number + length (e ∷ c.events) = omega arith in
           subst (λ (k : ℕ). Reached k end.watch.counts (behind_all c.events rest) end.fault) longer whole.reached;
     }
+
+-- a book that is not full has a free place
+has_free : (places used : ℕ) → full places used ≡ false → 0 < places - used
+has_free places used e = let less : leb places used ≡ false = e in grind (arith, nat_tests)
 
 abbrev watch : Standing → Option ℕ → ℕ → List AlarmView → List Unwatched → Watch
 watch s last counts ents us = record { standing = s; last = last; counts = counts; alarms = ents; unwatched = us }
@@ -92,11 +133,14 @@ armed_next t m r al row play day count left =
     ap (λ b. (next t (cond b (outcome {X = Result OpenSlip MonitorFault} (Ok (record { tag = t.tag; number = r + 1 })) (staked s)) (outcome (Err Spent) s)).after count).after) left
     ∙ ap (λ b. (cond b (outcome {X = Result Bool (Refused ShownSlip)} (Ok (rings t u k)) (settled t u k)) (outcome (Err (record { fault = Misfit; slip = slip })) u)).after) (ap₂ (λ x y. x && y) tags numbers)
 
-module _ (t : Terms) (p : Places) (n : ℕ) (rest : Stream) (ih : (at : Spot) (w : Watch) → WholeCourse t rest at w (watching t p rest at w)) (at : Spot) (day count : ℕ) where
+module _ (t : Terms) (p : Places) (n : ℕ) (rest : Stream) (ih : (at : Spot) (w : Watch) → WholeCourse t p rest at w (watching t p rest at w)) (at : Spot) (day count : ℕ) where
   abbrev On : Watch → Done → Type 0
-  On w d = WholeCourse t (Next (Count day count) n rest) at w (went at (watching t p rest (behind at n)) d.answer d.after)
+  On w d = WholeCourse t p (Next (Count day count) n rest) at w (went at (watching t p rest (behind at n)) d.answer d.after)
 
-  module _ (m r al : ℕ) (row : List ℕ) (play : Strategy) (last : Option ℕ) (counts : ℕ) (ents : List AlarmView) (us : List Unwatched) where
+  stays : (w : Watch) (f : ReplayFault) → On w (faulted w f)
+  stays w f = still t p (Next (Count day count) n rest) at w f
+
+  module _ (m r al : ℕ) (row : List ℕ) (play : Strategy) (last : Option ℕ) (counts : ℕ) (ents : List AlarmView) (us : List Unwatched) (later : above last day ≡ true) where
     abbrev armed : Watch
     armed = watch (standing Armed m r al row play) last counts ents us
 
@@ -106,84 +150,103 @@ module _ (t : Terms) (p : Places) (n : ℕ) (rest : Stream) (ih : (at : Spot) (w
     abbrev rang : Bool
     rang = rings t (standing Staked m r al (play []) play) (class_of (length t.nulls) count)
 
-    by_rounds : (b : Bool) → ltb r 1000000 ≡ b →
+    abbrev entered : Watch
+    entered = counted armed day after (alarm_if rang day after ents) us
+
+    settles : ltb r 1000000 ≡ true → full p.alarms (length ents) ≡ false → Leads t p (Count day count) at armed entered (Settled day count)
+    settles left room =
+        let next_is = armed_next t m r al row play day count left in
+        record {
+          of = refl;
+          rightly = (refl, has_free p.alarms (length ents) room, ap (λ s. s.ledger) next_is);
+          standing = sym next_is;
+          alarms = alarm_behind rang day after ents ∙ ap (λ s. ents ++ alarm_if (leb (t.threshold * bet) s.ledger) day s []) (sym next_is);
+          unwatched = sym (append-nil us);
+          counts = refl;
+          last = refl;
+          rising = (later, tt);
+        }
+
+    by_rounds : full p.alarms (length ents) ≡ false → (b : Bool) → ltb r 1000000 ≡ b →
         let o = cond b (outcome {X = Result OpenSlip MonitorFault} (Ok (record { tag = t.tag; number = r + 1 })) (staked armed.standing)) (outcome (Err Spent) armed.standing) in
         let x = shown t ents day count o.answer o.after in
         On armed (round_done armed day x.answer x.standing x.alarms)
-    by_rounds true left =
+    by_rounds room true left =
         let fits = settled_fits t m r al (play []) play ents day count _ refl in
-        let next_is = armed_next t m r al row play day count left in
         subst (λ (x : Round). On armed (round_done armed day x.answer x.standing x.alarms)) (sym fits)
-        (begins t (Count day count) n rest at armed (counted armed day after (alarm_if rang day after ents) us) _ (Settled day count) refl (refl, ap (λ s. s.ledger) next_is) (sym next_is)
-        (alarm_behind rang day after ents ∙ ap (λ s. ents ++ alarm_if (leb (t.threshold * bet) s.ledger) day s []) (sym next_is)) (sym (append-nil us)) refl
-        (ih (behind at n) (counted armed day after (alarm_if rang day after ents) us)))
-    by_rounds false left = still t (Next (Count day count) n rest) at armed (Monitor Spent)
+        (begins t p (Count day count) n rest at armed entered _ (Settled day count) (settles left room) (ih (behind at n) entered))
+    by_rounds room false left = stays armed (Monitor Spent)
 
-    armed_course : (b : Bool) → On armed (cond b (faulted armed (Book Full)) (round_done armed day (watched t armed.standing ents day count).answer (watched t armed.standing ents day count).standing (watched t armed.standing ents day count).alarms))
-    armed_course true = still t (Next (Count day count) n rest) at armed (Book Full)
-    armed_course false = by_rounds (ltb r 1000000) refl
+    armed_course : (b : Bool) → full p.alarms (length ents) ≡ b → On armed (cond b (faulted armed (Book Full)) (round_done armed day (watched t armed.standing ents day count).answer (watched t armed.standing ents day count).standing (watched t armed.standing ents day count).alarms))
+    armed_course true room = stays armed (Book Full)
+    armed_course false room = by_rounds room (ltb r 1000000) refl
 
   staked_course : (w : Watch) (x : Result (Unit {0}) ReplayFault) (s : Standing) (ents : List AlarmView) (f : ReplayFault) → x ≡ Err f → (b : Bool) → On w (cond b (faulted w (Book Full)) (round_done w day x s ents))
   staked_course w (Ok u) s ents f e b = cc
-  staked_course w (Err g) s ents f e true = still t (Next (Count day count) n rest) at w (Book Full)
-  staked_course w (Err g) s ents f e false = still t (Next (Count day count) n rest) at w g
+  staked_course w (Err g) s ents f e true = stays w (Book Full)
+  staked_course w (Err g) s ents f e false = stays w g
 
-  rung_course : (w : Watch) → w.standing.state ≡ Rung → (b : Bool) → On w (cond b (faulted w (Book Full)) (taken (counted w day w.standing w.alarms (w.unwatched ++ (record { day = day; «record» = at.number } ∷ [])))))
-  rung_course w e true = still t (Next (Count day count) n rest) at w (Book Full)
-  rung_course w e false =
+  rung_course : (w : Watch) → w.standing.state ≡ Rung → above w.last day ≡ true → (b : Bool) → full p.unwatched (length w.unwatched) ≡ b → On w (cond b (faulted w (Book Full)) (passed w at.number day))
+  rung_course w e later true room = stays w (Book Full)
+  rung_course w e later false room =
       let w1 = counted w day w.standing w.alarms (w.unwatched ++ (record { day = day; «record» = at.number } ∷ [])) in
-      begins t (Count day count) n rest at w w1 _ (Passed day at.number) (count, refl) e refl (sym (append-nil w.alarms)) refl refl (ih (behind at n) w1)
+      let leads : Leads t p (Count day count) at w w1 (Passed day at.number) = record { of = (count, refl, refl); rightly = (e, has_free p.unwatched (length w.unwatched) room); standing = refl; alarms = sym (append-nil w.alarms); unwatched = refl; counts = refl; last = refl; rising = (later, tt) } in
+      begins t p (Count day count) n rest at w w1 _ (Passed day at.number) leads (ih (behind at n) w1)
 
-  in_state : (st : State) (m r al : ℕ) (row : List ℕ) (play : Strategy) (last : Option ℕ) (counts : ℕ) (ents : List AlarmView) (us : List Unwatched) →
+  in_state : (st : State) (m r al : ℕ) (row : List ℕ) (play : Strategy) (last : Option ℕ) (counts : ℕ) (ents : List AlarmView) (us : List Unwatched) → above last day ≡ true →
       On (watch (standing st m r al row play) last counts ents us) (by_state st t p (watch (standing st m r al row play) last counts ents us) at.number day count)
-  in_state Armed m r al row play last counts ents us = armed_course m r al row play last counts ents us (full p.alarms (length ents))
-  in_state Staked m r al row play last counts ents us = staked_course (watch (standing Staked m r al row play) last counts ents us) (Err (Monitor NotArmed)) (standing Staked m r al row play) ents (Monitor NotArmed) refl (full p.alarms (length ents))
-  in_state Rung m r al row play last counts ents us = rung_course (watch (standing Rung m r al row play) last counts ents us) refl (full p.unwatched (length us))
+  in_state Armed m r al row play last counts ents us later = armed_course m r al row play last counts ents us later (full p.alarms (length ents)) refl
+  in_state Staked m r al row play last counts ents us later = staked_course (watch (standing Staked m r al row play) last counts ents us) (Err (Monitor NotArmed)) (standing Staked m r al row play) ents (Monitor NotArmed) refl (full p.alarms (length ents))
+  in_state Rung m r al row play last counts ents us later = rung_course (watch (standing Rung m r al row play) last counts ents us) refl later (full p.unwatched (length us)) refl
 
-  by_day : (w : Watch) (b : Bool) → On w (cond b (by_state w.standing.state t p w at.number day count) (faulted w DayNotAbove))
-  by_day w true = in_state w.standing.state w.standing.ledger w.standing.rounds w.standing.alarms w.standing.row w.standing.play w.last w.counts w.alarms w.unwatched
-  by_day w false = still t (Next (Count day count) n rest) at w DayNotAbove
+  by_day : (w : Watch) (b : Bool) → above w.last day ≡ b → On w (cond b (by_state w.standing.state t p w at.number day count) (faulted w DayNotAbove))
+  by_day w true later = in_state w.standing.state w.standing.ledger w.standing.rounds w.standing.alarms w.standing.row w.standing.play w.last w.counts w.alarms w.unwatched later
+  by_day w false later = stays w DayNotAbove
 
   count_course : (w : Watch) → On w (count_read t p w at.number day count)
-  count_course w = by_day w (above w.last day)
+  count_course w = by_day w (above w.last day) refl
 
--- a rearm that is refused leaves the monitor as it was
-rearm_course : (t : Terms) (p : Places) (n : ℕ) (rest : Stream) (ih : (at : Spot) (w : Watch) → WholeCourse t rest at w (watching t p rest at w)) (at : Spot) (st : State) (m r al : ℕ) (row : List ℕ) (play : Strategy) (last : Option ℕ) (counts : ℕ) (ents : List AlarmView) (us : List Unwatched) →
-    let w = watch (standing st m r al row play) last counts ents us in
-    let d = rearm_read t w in
-    WholeCourse t (Next Rearm n rest) at w (went at (watching t p rest (behind at n)) d.answer d.after)
-rearm_course t p n rest ih at Armed m r al row play last counts ents us =
-    let w = watch (standing Armed m r al row play) last counts ents us in
-    begins t Rearm n rest at w (rearm_read t w).after _ Rearmed refl tt refl (sym (append-nil ents)) (sym (append-nil us)) (omega arith) (ih (behind at n) (rearm_read t w).after)
-rearm_course t p n rest ih at Staked m r al row play last counts ents us = still t (Next Rearm n rest) at (watch (standing Staked m r al row play) last counts ents us) (Monitor NotArmed)
-rearm_course t p n rest ih at Rung m r al row play last counts ents us =
-    let w = watch (standing Rung m r al row play) last counts ents us in
-    begins t Rearm n rest at w (rearm_read t w).after _ Rearmed refl tt refl (sym (append-nil ents)) (sym (append-nil us)) (omega arith) (ih (behind at n) (rearm_read t w).after)
+module _ (t : Terms) (p : Places) (n : ℕ) (rest : Stream) (ih : (at : Spot) (w : Watch) → WholeCourse t p rest at w (watching t p rest at w)) (at : Spot) where
+  rearms : (w w1 : Watch) → (w.standing.state ≡ Staked → ⊥) → w1 ≡ restood w (rearming t w.standing).after → Leads t p Rearm at w w1 Rearmed
+  rearms w w1 calm e = rw e (record { of = refl; rightly = calm; standing = refl; alarms = sym (append-nil w.alarms); unwatched = sym (append-nil w.unwatched); counts = omega arith; last = refl; rising = tt })
+
+  -- a rearm that is refused leaves the monitor as it was
+  rearm_course : (st : State) (m r al : ℕ) (row : List ℕ) (play : Strategy) (last : Option ℕ) (counts : ℕ) (ents : List AlarmView) (us : List Unwatched) →
+      let w = watch (standing st m r al row play) last counts ents us in
+      let d = rearm_read t w in
+      WholeCourse t p (Next Rearm n rest) at w (went at (watching t p rest (behind at n)) d.answer d.after)
+  rearm_course Armed m r al row play last counts ents us =
+      let w = watch (standing Armed m r al row play) last counts ents us in
+      begins t p Rearm n rest at w (rearm_read t w).after _ Rearmed (rearms w _ (λ e. cc) refl) (ih (behind at n) (rearm_read t w).after)
+  rearm_course Staked m r al row play last counts ents us = still t p (Next Rearm n rest) at (watch (standing Staked m r al row play) last counts ents us) (Monitor NotArmed)
+  rearm_course Rung m r al row play last counts ents us =
+      let w = watch (standing Rung m r al row play) last counts ents us in
+      begins t p Rearm n rest at w (rearm_read t w).after _ Rearmed (rearms w _ (λ e. cc) refl) (ih (behind at n) (rearm_read t w).after)
 
 -- bytes follow the end
-followed : (t : Terms) (s : Stream) (at : Spot) (n : ℕ) (w : Watch) → WholeCourse t s at w (stopped w (fault_at (behind at n) Trailing))
-followed t s at n w = no_event t s at w (fault_at (behind at n) Trailing) (inr (refl, omega arith))
+followed : (t : Terms) (p : Places) (s : Stream) (at : Spot) (n : ℕ) (w : Watch) → WholeCourse t p s at w (stopped w (fault_at (behind at n) Trailing))
+followed t p s at n w = no_event t p s at w (fault_at (behind at n) Trailing) (inr (refl, omega arith))
 
-end_still : (t : Terms) (counts n : ℕ) (rest : Stream) (at : Spot) (w : Watch) → counts ≡ w.counts → WholeCourse t (Next (End counts) n rest) at w (at_end rest (behind at n) w)
-end_still t counts n Over at w e = no_event t (Next (End counts) n Over) at w None (n, ap (λ c. Next (End c) n Over) e)
-end_still t counts n (Broken x) at w e = followed t (Next (End counts) n (Broken x)) at n w
-end_still t counts n (Next f k rest) at w e = followed t (Next (End counts) n (Next f k rest)) at n w
+end_still : (t : Terms) (p : Places) (counts n : ℕ) (rest : Stream) (at : Spot) (w : Watch) → counts ≡ w.counts → WholeCourse t p (Next (End counts) n rest) at w (at_end rest (behind at n) w)
+end_still t p counts n Over at w e = no_event t p (Next (End counts) n Over) at w None (n, ap (λ c. Next (End c) n Over) e)
+end_still t p counts n (Broken x) at w e = followed t p (Next (End counts) n (Broken x)) at n w
+end_still t p counts n (Next f k rest) at w e = followed t p (Next (End counts) n (Next f k rest)) at n w
 
-end_course : (t : Terms) (counts n : ℕ) (rest : Stream) (at : Spot) (w : Watch) (b : Bool) → eqb counts w.counts ≡ b →
-    WholeCourse t (Next (End counts) n rest) at w (went at (at_end rest (behind at n)) (cond b (Ok tt) (Err CountsDiffer)) w)
-end_course t counts n rest at w true e = end_still t counts n rest at w (eqb-true counts w.counts e)
-end_course t counts n rest at w false e = still t (Next (End counts) n rest) at w CountsDiffer
+end_course : (t : Terms) (p : Places) (counts n : ℕ) (rest : Stream) (at : Spot) (w : Watch) (b : Bool) → eqb counts w.counts ≡ b →
+    WholeCourse t p (Next (End counts) n rest) at w (went at (at_end rest (behind at n)) (cond b (Ok tt) (Err CountsDiffer)) w)
+end_course t p counts n rest at w true e = end_still t p counts n rest at w (eqb-true counts w.counts e)
+end_course t p counts n rest at w false e = still t p (Next (End counts) n rest) at w CountsDiffer
 
 pub has_whole_course : HasWholeCourse
-has_whole_course t p Over at w = still t Over at w (Record NoneLeft)
-has_whole_course t p (Broken e) at w = still t (Broken e) at w (Record e)
-has_whole_course t p (Next (Table ws) n rest) at w = still t (Next (Table ws) n rest) at w NotAllowed
-has_whole_course t p (Next (Setup a r b) n rest) at w = still t (Next (Setup a r b) n rest) at w NotAllowed
-has_whole_course t p (Next (Alternative ws) n rest) at w = still t (Next (Alternative ws) n rest) at w NotAllowed
+has_whole_course t p Over at w = still t p Over at w (Record NoneLeft)
+has_whole_course t p (Broken e) at w = still t p (Broken e) at w (Record e)
+has_whole_course t p (Next (Table ws) n rest) at w = still t p (Next (Table ws) n rest) at w NotAllowed
+has_whole_course t p (Next (Setup a r b) n rest) at w = still t p (Next (Setup a r b) n rest) at w NotAllowed
+has_whole_course t p (Next (Alternative ws) n rest) at w = still t p (Next (Alternative ws) n rest) at w NotAllowed
 has_whole_course t p (Next (Count day count) n rest) at w = count_course t p n rest (λ at' w'. has_whole_course t p rest at' w') at day count w
 has_whole_course t p (Next Rearm n rest) at w =
     rearm_course t p n rest (λ at' w'. has_whole_course t p rest at' w') at w.standing.state w.standing.ledger w.standing.rounds w.standing.alarms w.standing.row w.standing.play w.last w.counts w.alarms w.unwatched
-has_whole_course t p (Next (End counts) n rest) at w = end_course t counts n rest at w (eqb counts w.counts) refl
+has_whole_course t p (Next (End counts) n rest) at w = end_course t p counts n rest at w (eqb counts w.counts) refl
 
 pub has_course : HasCourse
 has_course t p s at w = (has_whole_course t p s at w).course

@@ -1,18 +1,19 @@
 -- What happens in a replay, in the order of the log: a law over whole replays, whatever the log.
-use Rattle.std.specs.Prelude.{◌≡◌, ℕ, ◌+◌, ◌*◌, ◌/◌, ◌⊎◌, List, [], ◌∷◌, ◌++◌, length, Some, None, Option, nat_le, slice_index}
-use Rattle.edetector.specs.declared.state.State.TheVariants.{Armed, Rung}
+use Rattle.std.specs.Prelude.{◌≡◌, ℕ, ◌+◌, ◌-◌, ◌*◌, ◌/◌, ◌<◌, ◌⊎◌, true, List, [], ◌∷◌, ◌++◌, length, Some, None, Option, nat_le, slice_index}
+use Rattle.edetector.specs.declared.state.State.TheVariants.{Armed, Staked, Rung}
 use Rattle.edetector.specs.Rules.{bet}
 use Rattle.edetector.specs.Tables.{class_of}
 use Rattle.edetector.specs.Ledger.{Terms, Standing, staking, rearming}
 use Rattle.edetector.specs.Plans.{next}
 use Rattle.plantlog.specs.Format.{Fields, Count, Rearm, End}
 use Rattle.daybook.specs.declared.entry.unwatched.Unwatched.{Unwatched}
+use Rattle.daybook.specs.Books.{above}
 use Rattle.daybook.specs.Entries.{AlarmView}
 use Rattle.playback.specs.declared.stop.ReplayFault.TheVariants.{Trailing}
 use Rattle.playback.specs.declared.stop.Fault.{Fault}
 use Rattle.playback.specs.Stream.{Stream, Over, Broken, Next}
 use Rattle.playback.specs.Watch.{Watch, Places, alarm_if}
-use Rattle.playback.specs.Replaying.{Spot, Finish, watching}
+use Rattle.playback.specs.Replaying.{Spot, behind, Finish, watching}
 
 -- a count of a day that was settled, one that was passed over at a record, and a rearm
 pub data Event : Type 0 where
@@ -51,55 +52,76 @@ abbrev pub unwatched_of : List Event → List Unwatched
 unwatched_of [] = []
 unwatched_of (e ∷ es) = passed_in e ++ unwatched_of es
 
-abbrev pub is_count : Event → ℕ
-is_count (Settled day count) = 1
-is_count (Passed day number) = 1
-is_count Rearmed = 0
+-- the days of the counts, settled or passed over
+abbrev pub day_of : Event → List ℕ
+day_of (Settled day count) = day ∷ []
+day_of (Passed day number) = day ∷ []
+day_of Rearmed = []
 
-abbrev pub counts_of : List Event → ℕ
-counts_of [] = 0
-counts_of (e ∷ es) = is_count e + counts_of es
+abbrev pub days_of : List Event → List ℕ
+days_of [] = []
+days_of (e ∷ es) = day_of e ++ days_of es
+
+-- each day is above the one before it, the first above the last count's so far
+abbrev pub RisingDays : Option ℕ → List ℕ → Type 0
+RisingDays last [] = Unit {0}
+RisingDays last (day ∷ days) = (above last day ≡ true) × RisingDays (Some day) days
+
+abbrev pub last_day : Option ℕ → List ℕ → Option ℕ
+last_day last [] = last
+last_day last (day ∷ days) = last_day (Some day) days
+
+-- the places of the two books that are free, and those that an event leaves
+abbrev pub free_in : Places → Watch → Places
+free_in p w = record { alarms = p.alarms - length w.alarms; unwatched = p.unwatched - length w.unwatched }
+
+abbrev pub free_after : Terms → Standing → Places → Event → Places
+free_after t s free e = record { alarms = free.alarms - length (alarm_of t s e); unwatched = free.unwatched - length (passed_in e) }
 
 -- the ledger of a round by the restart rule's recursion: the base of the ledger times the factor of the row now
 abbrev pub recursion : Terms → Standing → ℕ → ℕ
 recursion t s count = (t.base s.ledger * slice_index (s.play []) (class_of (length t.nulls) count)) / 4096
 
--- a count is settled while the monitor is armed, by the recursion, and passed over while it rings
-abbrev pub Rightly : Terms → Standing → Event → Type 0
-Rightly t s (Settled day count) = (s.state ≡ Armed) × ((after_event t s (Settled day count)).ledger ≡ recursion t s count)
-Rightly t s (Passed day number) = s.state ≡ Rung
-Rightly t s Rearmed = Unit {0}
+-- a count is settled while the monitor is armed, by the recursion, and passed over while it rings; the book that it may
+-- need has a free place. A rearm is taken unless a bet is staked
+abbrev pub Rightly : Terms → Places → Standing → Event → Type 0
+Rightly t free s (Settled day count) =
+    (s.state ≡ Armed) × (0 < free.alarms) × ((after_event t s (Settled day count)).ledger ≡ recursion t s count)
+Rightly t free s (Passed day number) = (s.state ≡ Rung) × (0 < free.unwatched)
+Rightly t free s Rearmed = s.state ≡ Staked → ⊥
 
-abbrev pub AllRightly : Terms → Standing → List Event → Type 0
-AllRightly t s [] = Unit {0}
-AllRightly t s (e ∷ es) = Rightly t s e × AllRightly t (after_event t s e) es
+abbrev pub AllRightly : Terms → Places → Standing → List Event → Type 0
+AllRightly t free s [] = Unit {0}
+AllRightly t free s (e ∷ es) = Rightly t free s e × AllRightly t (free_after t s free e) (after_event t s e) es
 
--- the record that an event is of
-abbrev pub EventOf : Event → Fields → Type 0
-EventOf (Settled day count) f = f ≡ Count day count
-EventOf (Passed day number) f = (n : ℕ) × (f ≡ Count day n)
-EventOf Rearmed f = f ≡ Rearm
+-- the record that an event is of, and its number in the log
+abbrev pub EventOf : Event → Fields → ℕ → Type 0
+EventOf (Settled day count) f number = f ≡ Count day count
+EventOf (Passed day told) f number = (n : ℕ) × (f ≡ Count day n) × (told ≡ number)
+EventOf Rearmed f number = f ≡ Rearm
 
 -- the events are of the log's records, one after the other
-abbrev pub EventsOf : List Event → Stream → Type 0
-EventsOf [] s = Unit {0}
-EventsOf (e ∷ es) Over = ⊥
-EventsOf (e ∷ es) (Broken f) = ⊥
-EventsOf (e ∷ es) (Next f n rest) = EventOf e f × EventsOf es rest
+abbrev pub EventsOf : List Event → Stream → Spot → Type 0
+EventsOf [] s at = Unit {0}
+EventsOf (e ∷ es) Over at = ⊥
+EventsOf (e ∷ es) (Broken f) at = ⊥
+EventsOf (e ∷ es) (Next f n rest) at = EventOf e f at.number × EventsOf es rest (behind at n)
 
 -- from w to w' by events of the log's records: these are all that the monitor and the two books saw
-pub record Course (t : Terms) (s : Stream) (w w' : Watch) : Type 0 where
+pub record Course (t : Terms) (p : Places) (s : Stream) (at : Spot) (w w' : Watch) : Type 0 where
   pub events : List Event
   pub standing : w'.standing ≡ after_all t w.standing events
   pub alarms : w'.alarms ≡ w.alarms ++ alarms_of t w.standing events
   pub unwatched : w'.unwatched ≡ w.unwatched ++ unwatched_of events
-  pub counts : w'.counts ≡ w.counts + counts_of events
-  pub rightly : AllRightly t w.standing events
-  pub of_log : EventsOf events s
+  pub counts : w'.counts ≡ w.counts + length (days_of events)
+  pub last : w'.last ≡ last_day w.last (days_of events)
+  pub rising : RisingDays w.last (days_of events)
+  pub rightly : AllRightly t (free_in p w) w.standing events
+  pub of_log : EventsOf events s at
 
 -- every replay has such a course, to its end or to its fault
 abbrev pub HasCourse : Type 0
-HasCourse = (t : Terms) (p : Places) (s : Stream) (at : Spot) (w : Watch) → Course t s w (watching t p s at w).watch
+HasCourse = (t : Terms) (p : Places) (s : Stream) (at : Spot) (w : Watch) → Course t p s at w (watching t p s at w).watch
 
 -- the records behind those that the events are of
 abbrev pub behind_all : List Event → Stream → Stream
@@ -115,10 +137,10 @@ Reached number counts left None = (n : ℕ) × (left ≡ Next (End counts) n Ove
 Reached number counts left (Some f) = (f.«record» ≡ number) ⊎ ((f.cause ≡ Trailing) × (f.«record» ≡ number + 1))
 
 -- a course to a finish that leaves no record out
-pub record WholeCourse (t : Terms) (s : Stream) (at : Spot) (w : Watch) (f : Finish) : Type 0 where
-  pub course : Course t s w f.watch
+pub record WholeCourse (t : Terms) (p : Places) (s : Stream) (at : Spot) (w : Watch) (f : Finish) : Type 0 where
+  pub course : Course t p s at w f.watch
   pub reached : Reached (at.number + length course.events) f.watch.counts (behind_all course.events s) f.fault
 
 -- every replay has such a whole course
 abbrev pub HasWholeCourse : Type 0
-HasWholeCourse = (t : Terms) (p : Places) (s : Stream) (at : Spot) (w : Watch) → WholeCourse t s at w (watching t p s at w)
+HasWholeCourse = (t : Terms) (p : Places) (s : Stream) (at : Spot) (w : Watch) → WholeCourse t p s at w (watching t p s at w)
