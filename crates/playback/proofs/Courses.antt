@@ -1,5 +1,5 @@
 -- Every replay has a course, and it leaves no record out.
-use Rattle.std.proofs.Common.{◌≡◌, ℕ, ◌+◌, ◌-◌, ◌*◌, ◌<◌, Bool, true, false, cond, ◌&&◌, eqb, ltb, leb, List, [], ◌∷◌, ◌++◌, length, None, Ok, Err, Option, Result, sym, refl, ap, ◌∙◌, subst, ap₂, inl, inr, append_assoc, arith}
+use Rattle.std.proofs.Common.{◌≡◌, ℕ, ◌+◌, ◌-◌, ◌*◌, ◌<◌, ◌≤◌, Bool, true, false, cond, ◌&&◌, eqb, ltb, leb, List, [], ◌∷◌, ◌++◌, length, None, Ok, Err, Option, Result, sym, refl, ap, ◌∙◌, subst, ap₂, inl, inr, append_assoc, arith}
 use Rattle.std.proofs.lemmas.List.{append-nil, length-append}
 use Rattle.std.proofs.lemmas.Bool.{eqb-true}
 use Rattle.std.proofs.lemmas.Bool.Decides.{nat_tests}
@@ -28,11 +28,11 @@ use Rattle.daybook.specs.declared.fault.BookFault.TheVariants.{Full}
 use Rattle.playback.specs.Stream.{Stream, Over, Broken, Next}
 use Rattle.playback.specs.Watch.{Watch, Places, Done, faulted, counted, alarm_if, Round, shown, watched, round_done, full, passed, by_state, restood, count_read, rearm_read}
 use Rattle.playback.specs.Replaying.{Spot, behind, Finish, went, stopped, fault_at, at_end, watching}
-use Rattle.playback.specs.Course.{Event, Settled, Passed, Rearmed, after_event, after_all, alarm_of, alarms_of, unwatched_of, passed_in, day_of, days_of, RisingDays, last_day, free_in, free_after, Rightly, AllRightly, EventOf, behind_all, Reached, HasCourse, WholeCourse, HasWholeCourse}
+use Rattle.playback.specs.Course.{Event, Settled, Passed, Rearmed, after_event, after_all, alarm_of, alarms_of, unwatched_of, passed_in, day_of, days_of, RisingDays, last_day, free_in, free_after, Rightly, AllRightly, EventOf, NoCount, NotTaken, Reached, HasCourse, WholeCourse, HasWholeCourse}
 use Rattle.playback.proofs.Counting.{settled_fits}
 
 -- nothing more happens
-no_event : (t : Terms) (p : Places) (s : Stream) (at : Spot) (w : Watch) (x : Option Fault) → Reached (at.number + 0) w.counts s x → WholeCourse t p s at w (stopped w x)
+no_event : (t : Terms) (p : Places) (s : Stream) (at : Spot) (w : Watch) (x : Option Fault) → Reached (free_in p w) w at s x → WholeCourse t p s at w (stopped w x)
 no_event t p s at w x to = record {
   course = record {
     events = [];
@@ -49,8 +49,8 @@ no_event t p s at w x to = record {
 }
 
 -- a record is not taken
-still : (t : Terms) (p : Places) (s : Stream) (at : Spot) (w : Watch) (f : ReplayFault) → WholeCourse t p s at w (stopped w (fault_at at f))
-still t p s at w f = no_event t p s at w (fault_at at f) (inl (omega arith))
+still : (t : Terms) (p : Places) (s : Stream) (at : Spot) (w : Watch) (f : ReplayFault) → NotTaken (free_in p w) w s f → WholeCourse t p s at w (stopped w (fault_at at f))
+still t p s at w f why = no_event t p s at w (fault_at at f) (inl (why, refl))
 
 -- what an event of a record makes of a watch
 record Leads (t : Terms) (p : Places) (f : Fields) (at : Spot) (w w1 : Watch) (e : Event) : Type 0 where
@@ -103,14 +103,21 @@ begins t p f n rest at w w1 end e l whole =
         );
         of_log = (l.of, c.of_log);
       };
-      reached =
-          let longer : at.number + 1 + length c.events ≡ at.number + length (e ∷ c.events) = omega arith in
-          subst (λ (k : ℕ). Reached k end.watch.counts (behind_all c.events rest) end.fault) longer whole.reached;
+      reached = whole.reached;
     }
 
 -- a book that is not full has a free place
 has_free : (places used : ℕ) → full places used ≡ false → 0 < places - used
 has_free places used e = let less : leb places used ≡ false = e in grind (arith, nat_tests)
+
+none_free : (places used : ℕ) → full places used ≡ true → places - used ≡ 0
+none_free places used e = let all : leb places used ≡ true = e in grind (arith, nat_tests)
+
+spent : (rounds : ℕ) → ltb rounds 1000000 ≡ false → 1000000 ≤ rounds
+spent rounds e = grind (arith, nat_tests)
+
+other_count : (counts n : ℕ) → eqb counts n ≡ false → counts ≡ n → ⊥
+other_count counts n e same = grind (arith, nat_tests)
 
 abbrev watch : Standing → Option ℕ → ℕ → List AlarmView → List Unwatched → Watch
 watch s last counts ents us = record { standing = s; last = last; counts = counts; alarms = ents; unwatched = us }
@@ -137,8 +144,8 @@ module _ (t : Terms) (p : Places) (n : ℕ) (rest : Stream) (ih : (at : Spot) (w
   abbrev On : Watch → Done → Type 0
   On w d = WholeCourse t p (Next (Count day count) n rest) at w (went at (watching t p rest (behind at n)) d.answer d.after)
 
-  stays : (w : Watch) (f : ReplayFault) → On w (faulted w f)
-  stays w f = still t p (Next (Count day count) n rest) at w f
+  stays : (w : Watch) (f : ReplayFault) → NoCount (free_in p w) w day f → On w (faulted w f)
+  stays w f why = still t p (Next (Count day count) n rest) at w f why
 
   module _ (m r al : ℕ) (row : List ℕ) (play : Strategy) (last : Option ℕ) (counts : ℕ) (ents : List AlarmView) (us : List Unwatched) (later : above last day ≡ true) where
     abbrev armed : Watch
@@ -175,19 +182,18 @@ module _ (t : Terms) (p : Places) (n : ℕ) (rest : Stream) (ih : (at : Spot) (w
         let fits = settled_fits t m r al (play []) play ents day count _ refl in
         subst (λ (x : Round). On armed (round_done armed day x.answer x.standing x.alarms)) (sym fits)
         (begins t p (Count day count) n rest at armed entered _ (Settled day count) (settles left room) (ih (behind at n) entered))
-    by_rounds room false left = stays armed (Monitor Spent)
+    by_rounds room false left = stays armed (Monitor Spent) (later, has_free p.alarms (length ents) room, refl, spent r left)
 
     armed_course : (b : Bool) → full p.alarms (length ents) ≡ b → On armed (cond b (faulted armed (Book Full)) (round_done armed day (watched t armed.standing ents day count).answer (watched t armed.standing ents day count).standing (watched t armed.standing ents day count).alarms))
-    armed_course true room = stays armed (Book Full)
+    armed_course true room = stays armed (Book Full) (later, none_free p.alarms (length ents) room)
     armed_course false room = by_rounds room (ltb r 1000000) refl
 
-  staked_course : (w : Watch) (x : Result (Unit {0}) ReplayFault) (s : Standing) (ents : List AlarmView) (f : ReplayFault) → x ≡ Err f → (b : Bool) → On w (cond b (faulted w (Book Full)) (round_done w day x s ents))
-  staked_course w (Ok u) s ents f e b = cc
-  staked_course w (Err g) s ents f e true = stays w (Book Full)
-  staked_course w (Err g) s ents f e false = stays w g
+  staked_course : (w : Watch) → w.standing.state ≡ Staked → above w.last day ≡ true → (b : Bool) → full p.alarms (length w.alarms) ≡ b → On w (cond b (faulted w (Book Full)) (faulted w (Monitor NotArmed)))
+  staked_course w e later true room = stays w (Book Full) (later, rw e (none_free p.alarms (length w.alarms) room))
+  staked_course w e later false room = stays w (Monitor NotArmed) (later, has_free p.alarms (length w.alarms) room, e)
 
   rung_course : (w : Watch) → w.standing.state ≡ Rung → above w.last day ≡ true → (b : Bool) → full p.unwatched (length w.unwatched) ≡ b → On w (cond b (faulted w (Book Full)) (passed w at.number day))
-  rung_course w e later true room = stays w (Book Full)
+  rung_course w e later true room = stays w (Book Full) (later, rw e (none_free p.unwatched (length w.unwatched) room))
   rung_course w e later false room =
       let w1 = counted w day w.standing w.alarms (w.unwatched ++ (record { day = day; «record» = at.number } ∷ [])) in
       let leads : Leads t p (Count day count) at w w1 (Passed day at.number) = record { of = (count, refl, refl); rightly = (e, has_free p.unwatched (length w.unwatched) room); standing = refl; alarms = sym (append-nil w.alarms); unwatched = refl; counts = refl; last = refl; rising = (later, tt) } in
@@ -196,12 +202,12 @@ module _ (t : Terms) (p : Places) (n : ℕ) (rest : Stream) (ih : (at : Spot) (w
   in_state : (st : State) (m r al : ℕ) (row : List ℕ) (play : Strategy) (last : Option ℕ) (counts : ℕ) (ents : List AlarmView) (us : List Unwatched) → above last day ≡ true →
       On (watch (standing st m r al row play) last counts ents us) (by_state st t p (watch (standing st m r al row play) last counts ents us) at.number day count)
   in_state Armed m r al row play last counts ents us later = armed_course m r al row play last counts ents us later (full p.alarms (length ents)) refl
-  in_state Staked m r al row play last counts ents us later = staked_course (watch (standing Staked m r al row play) last counts ents us) (Err (Monitor NotArmed)) (standing Staked m r al row play) ents (Monitor NotArmed) refl (full p.alarms (length ents))
+  in_state Staked m r al row play last counts ents us later = staked_course (watch (standing Staked m r al row play) last counts ents us) refl later (full p.alarms (length ents)) refl
   in_state Rung m r al row play last counts ents us later = rung_course (watch (standing Rung m r al row play) last counts ents us) refl later (full p.unwatched (length us)) refl
 
   by_day : (w : Watch) (b : Bool) → above w.last day ≡ b → On w (cond b (by_state w.standing.state t p w at.number day count) (faulted w DayNotAbove))
   by_day w true later = in_state w.standing.state w.standing.ledger w.standing.rounds w.standing.alarms w.standing.row w.standing.play w.last w.counts w.alarms w.unwatched later
-  by_day w false later = stays w DayNotAbove
+  by_day w false later = stays w DayNotAbove later
 
   count_course : (w : Watch) → On w (count_read t p w at.number day count)
   count_course w = by_day w (above w.last day) refl
@@ -218,31 +224,31 @@ module _ (t : Terms) (p : Places) (n : ℕ) (rest : Stream) (ih : (at : Spot) (w
   rearm_course Armed m r al row play last counts ents us =
       let w = watch (standing Armed m r al row play) last counts ents us in
       begins t p Rearm n rest at w (rearm_read t w).after _ Rearmed (rearms w _ (λ e. cc) refl) (ih (behind at n) (rearm_read t w).after)
-  rearm_course Staked m r al row play last counts ents us = still t p (Next Rearm n rest) at (watch (standing Staked m r al row play) last counts ents us) (Monitor NotArmed)
+  rearm_course Staked m r al row play last counts ents us = still t p (Next Rearm n rest) at (watch (standing Staked m r al row play) last counts ents us) (Monitor NotArmed) (refl, refl)
   rearm_course Rung m r al row play last counts ents us =
       let w = watch (standing Rung m r al row play) last counts ents us in
       begins t p Rearm n rest at w (rearm_read t w).after _ Rearmed (rearms w _ (λ e. cc) refl) (ih (behind at n) (rearm_read t w).after)
 
 -- bytes follow the end
-followed : (t : Terms) (p : Places) (s : Stream) (at : Spot) (n : ℕ) (w : Watch) → WholeCourse t p s at w (stopped w (fault_at (behind at n) Trailing))
-followed t p s at n w = no_event t p s at w (fault_at (behind at n) Trailing) (inr (refl, omega arith))
+followed : (t : Terms) (p : Places) (counts n : ℕ) (rest : Stream) (at : Spot) (w : Watch) → counts ≡ w.counts → (rest ≡ Over → ⊥) → WholeCourse t p (Next (End counts) n rest) at w (stopped w (fault_at (behind at n) Trailing))
+followed t p counts n rest at w e more = no_event t p (Next (End counts) n rest) at w (fault_at (behind at n) Trailing) (inr (n, rest, ap (λ c. Next (End c) n rest) e, more, refl))
 
 end_still : (t : Terms) (p : Places) (counts n : ℕ) (rest : Stream) (at : Spot) (w : Watch) → counts ≡ w.counts → WholeCourse t p (Next (End counts) n rest) at w (at_end rest (behind at n) w)
 end_still t p counts n Over at w e = no_event t p (Next (End counts) n Over) at w None (n, ap (λ c. Next (End c) n Over) e)
-end_still t p counts n (Broken x) at w e = followed t p (Next (End counts) n (Broken x)) at n w
-end_still t p counts n (Next f k rest) at w e = followed t p (Next (End counts) n (Next f k rest)) at n w
+end_still t p counts n (Broken x) at w e = followed t p counts n (Broken x) at w e (λ o. cc)
+end_still t p counts n (Next f k rest) at w e = followed t p counts n (Next f k rest) at w e (λ o. cc)
 
 end_course : (t : Terms) (p : Places) (counts n : ℕ) (rest : Stream) (at : Spot) (w : Watch) (b : Bool) → eqb counts w.counts ≡ b →
     WholeCourse t p (Next (End counts) n rest) at w (went at (at_end rest (behind at n)) (cond b (Ok tt) (Err CountsDiffer)) w)
 end_course t p counts n rest at w true e = end_still t p counts n rest at w (eqb-true counts w.counts e)
-end_course t p counts n rest at w false e = still t p (Next (End counts) n rest) at w CountsDiffer
+end_course t p counts n rest at w false e = still t p (Next (End counts) n rest) at w CountsDiffer (refl, other_count counts w.counts e)
 
 pub has_whole_course : HasWholeCourse
-has_whole_course t p Over at w = still t p Over at w (Record NoneLeft)
-has_whole_course t p (Broken e) at w = still t p (Broken e) at w (Record e)
-has_whole_course t p (Next (Table ws) n rest) at w = still t p (Next (Table ws) n rest) at w NotAllowed
-has_whole_course t p (Next (Setup a r b) n rest) at w = still t p (Next (Setup a r b) n rest) at w NotAllowed
-has_whole_course t p (Next (Alternative ws) n rest) at w = still t p (Next (Alternative ws) n rest) at w NotAllowed
+has_whole_course t p Over at w = still t p Over at w (Record NoneLeft) refl
+has_whole_course t p (Broken e) at w = still t p (Broken e) at w (Record e) refl
+has_whole_course t p (Next (Table ws) n rest) at w = still t p (Next (Table ws) n rest) at w NotAllowed refl
+has_whole_course t p (Next (Setup a r b) n rest) at w = still t p (Next (Setup a r b) n rest) at w NotAllowed refl
+has_whole_course t p (Next (Alternative ws) n rest) at w = still t p (Next (Alternative ws) n rest) at w NotAllowed refl
 has_whole_course t p (Next (Count day count) n rest) at w = count_course t p n rest (λ at' w'. has_whole_course t p rest at' w') at day count w
 has_whole_course t p (Next Rearm n rest) at w =
     rearm_course t p n rest (λ at' w'. has_whole_course t p rest at' w') at w.standing.state w.standing.ledger w.standing.rounds w.standing.alarms w.standing.row w.standing.play w.last w.counts w.alarms w.unwatched

@@ -1,19 +1,24 @@
 -- What happens in a replay, in the order of the log: a law over whole replays, whatever the log.
-use Rattle.std.specs.Prelude.{◌≡◌, ℕ, ◌+◌, ◌-◌, ◌*◌, ◌/◌, ◌<◌, ◌⊎◌, true, List, [], ◌∷◌, ◌++◌, length, Some, None, Option, nat_le, slice_index}
+use Rattle.std.specs.Prelude.{◌≡◌, ℕ, ◌+◌, ◌-◌, ◌*◌, ◌/◌, ◌<◌, ◌≤◌, ◌⊎◌, true, false, List, [], ◌∷◌, ◌++◌, length, Some, None, Option, nat_le, slice_index}
+use Rattle.edetector.specs.declared.state.State.{State}
 use Rattle.edetector.specs.declared.state.State.TheVariants.{Armed, Staked, Rung}
 use Rattle.edetector.specs.Rules.{bet}
 use Rattle.edetector.specs.Tables.{class_of}
 use Rattle.edetector.specs.Ledger.{Terms, Standing, staking, rearming}
 use Rattle.edetector.specs.Plans.{next}
-use Rattle.plantlog.specs.Format.{Fields, Count, Rearm, End}
+use Rattle.edetector.specs.declared.fault.MonitorFault.TheVariants.{NotArmed, Spent}
+use Rattle.plantlog.specs.declared.fault.RecordFault.TheVariants.{NoneLeft}
+use Rattle.plantlog.specs.Format.{Fields, Table, Setup, Alternative, Count, Rearm, End}
+use Rattle.daybook.specs.declared.fault.BookFault.TheVariants.{Full}
 use Rattle.daybook.specs.declared.entry.unwatched.Unwatched.{Unwatched}
 use Rattle.daybook.specs.Books.{above}
 use Rattle.daybook.specs.Entries.{AlarmView}
-use Rattle.playback.specs.declared.stop.ReplayFault.TheVariants.{Trailing}
+use Rattle.playback.specs.declared.stop.ReplayFault.{ReplayFault}
+use Rattle.playback.specs.declared.stop.ReplayFault.TheVariants.{Record, Monitor, Book, NotAllowed, DayNotAbove, CountsDiffer, Trailing}
 use Rattle.playback.specs.declared.stop.Fault.{Fault}
 use Rattle.playback.specs.Stream.{Stream, Over, Broken, Next}
 use Rattle.playback.specs.Watch.{Watch, Places, alarm_if}
-use Rattle.playback.specs.Replaying.{Spot, behind, Finish, watching}
+use Rattle.playback.specs.Replaying.{Spot, behind, fault_at, Finish, watching}
 
 -- a count of a day that was settled, one that was passed over at a record, and a rearm
 pub data Event : Type 0 where
@@ -123,23 +128,57 @@ pub record Course (t : Terms) (p : Places) (s : Stream) (at : Spot) (w w' : Watc
 abbrev pub HasCourse : Type 0
 HasCourse = (t : Terms) (p : Places) (s : Stream) (at : Spot) (w : Watch) → Course t p s at w (watching t p s at w).watch
 
--- the records behind those that the events are of
+-- the records behind those that the events are of, and where they begin
 abbrev pub behind_all : List Event → Stream → Stream
 behind_all [] s = s
 behind_all (e ∷ es) Over = Over
 behind_all (e ∷ es) (Broken f) = Broken f
 behind_all (e ∷ es) (Next f n rest) = behind_all es rest
 
+abbrev pub spot_behind : List Event → Stream → Spot → Spot
+spot_behind [] s at = at
+spot_behind (e ∷ es) Over at = at
+spot_behind (e ∷ es) (Broken f) at = at
+spot_behind (e ∷ es) (Next f n rest) at = spot_behind es rest (behind at n)
+
+-- the book that a count may need is full
+abbrev pub NoPlace : State → Places → Type 0
+NoPlace Armed free = free.alarms ≡ 0
+NoPlace Staked free = free.alarms ≡ 0
+NoPlace Rung free = free.unwatched ≡ 0
+
+-- why a count of the day is not taken: its day is judged first, then the book, then the monitor
+abbrev pub NoCount : Places → Watch → ℕ → ReplayFault → Type 0
+NoCount free w day DayNotAbove = above w.last day ≡ false
+NoCount free w day (Book Full) = (above w.last day ≡ true) × NoPlace w.standing.state free
+NoCount free w day (Monitor NotArmed) = (above w.last day ≡ true) × (0 < free.alarms) × (w.standing.state ≡ Staked)
+NoCount free w day (Monitor Spent) =
+    (above w.last day ≡ true) × (0 < free.alarms) × (w.standing.state ≡ Armed) × (1000000 ≤ w.standing.rounds)
+NoCount free w day _ = ⊥
+
+-- why the next record is not taken, or that there is none
+abbrev pub NotTaken : Places → Watch → Stream → ReplayFault → Type 0
+NotTaken free w Over cause = cause ≡ Record NoneLeft
+NotTaken free w (Broken e) cause = cause ≡ Record e
+NotTaken free w (Next (Table ws) n rest) cause = cause ≡ NotAllowed
+NotTaken free w (Next (Setup a r b) n rest) cause = cause ≡ NotAllowed
+NotTaken free w (Next (Alternative ws) n rest) cause = cause ≡ NotAllowed
+NotTaken free w (Next (Count day count) n rest) cause = NoCount free w day cause
+NotTaken free w (Next Rearm n rest) cause = (cause ≡ Monitor NotArmed) × (w.standing.state ≡ Staked)
+NotTaken free w (Next (End counts) n rest) cause = (cause ≡ CountsDiffer) × (counts ≡ w.counts → ⊥)
+
 -- a replay without a fault leaves only the end, which names the counts; one with a fault stops at the very next record,
--- whose number is given, or behind an end after which bytes follow
-abbrev pub Reached : ℕ → ℕ → Stream → Option Fault → Type 0
-Reached number counts left None = (n : ℕ) × (left ≡ Next (End counts) n Over)
-Reached number counts left (Some f) = (f.«record» ≡ number) ⊎ ((f.cause ≡ Trailing) × (f.«record» ≡ number + 1))
+-- for its reason, or behind an end that names the counts, after which bytes follow
+abbrev pub Reached : Places → Watch → Spot → Stream → Option Fault → Type 0
+Reached free w at left None = (n : ℕ) × (left ≡ Next (End w.counts) n Over)
+Reached free w at left (Some f) =
+    (NotTaken free w left f.cause × (Some f ≡ fault_at at f.cause))
+    ⊎ ((n : ℕ) × (rest : Stream) × (left ≡ Next (End w.counts) n rest) × (rest ≡ Over → ⊥) × (Some f ≡ fault_at (behind at n) Trailing))
 
 -- a course to a finish that leaves no record out
 pub record WholeCourse (t : Terms) (p : Places) (s : Stream) (at : Spot) (w : Watch) (f : Finish) : Type 0 where
   pub course : Course t p s at w f.watch
-  pub reached : Reached (at.number + length course.events) f.watch.counts (behind_all course.events s) f.fault
+  pub reached : Reached (free_in p f.watch) f.watch (spot_behind course.events s at) (behind_all course.events s) f.fault
 
 -- every replay has such a whole course
 abbrev pub HasWholeCourse : Type 0
