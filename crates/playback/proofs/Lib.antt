@@ -1,3 +1,4 @@
+pub mod Accepts
 pub mod Appends
 pub mod Counting
 pub mod Courses

@@ -10,7 +10,7 @@ use Rattle.playback.proofs.Fronts.{none_in_front}
 use Rattle.playback.specs.Stream.{Stream, Broken, Next, opened, stream_by, stream_of}
 
 -- what a record leaves is shorter
-shorter : (b : ℕ) (bs : List ℕ) (f : Fields) (rest : List ℕ) → first_record (b ∷ bs) ≡ Ok (f, rest) → length rest ≤ length bs
+pub shorter : (b : ℕ) (bs : List ℕ) (f : Fields) (rest : List ℕ) → first_record (b ∷ bs) ≡ Ok (f, rest) → length rest ≤ length bs
 shorter b bs f rest e = omega (arith, ap length (left_behind (b ∷ bs) f rest e), length-drop (b + 1) (b ∷ bs))
 
 -- two ways to go on that agree on what is left

@@ -1,3 +1,4 @@
+pub mod Accepted
 pub mod Course
 pub mod Figures
 pub mod Front

@@ -1,6 +1,7 @@
 // The replay of a whole log.
-ghost use Rattle.std.specs.Prelude.{◌≡◌};
+ghost use Rattle.std.specs.Prelude.{◌≡◌, None, IfOk};
 ghost use Rattle.daybook.specs.Books.{Behind};
+ghost use Rattle.playback.specs.Accepted.{Accepted};
 ghost use Rattle.playback.specs.Course.{HasCourse, HasWholeCourse};
 ghost use Rattle.playback.specs.Figures.{Figures};
 ghost use Rattle.playback.specs.Held.{places_in};
@@ -26,6 +27,7 @@ pub fn replay(
     ensures value { replay_told result alarms.new unwatched.new ≡ replay_of (places_in alarms.old unwatched.old) log.now }
     ensures places { places_in alarms.new unwatched.new ≡ places_in alarms.old unwatched.old }
     ensures unused { Behind alarms.old.places.now alarms.new × Behind unwatched.old.places.now unwatched.new }
+    ensures accepts { IfOk result (λ run. run.fault ≡ None → Accepted log.now) }
     ensures course { HasCourse }
     ensures whole_course { HasWholeCourse }
     ensures figures { Figures }

@@ -1,3 +1,4 @@
+use Rattle.playback.proofs.Accepts.{accepted}
 use Rattle.playback.proofs.Courses.{has_course, has_whole_course}
 use Rattle.playback.proofs.Reckoned.{reckoned}
 use Rattle.playback.proofs.replay.replay.Goals as goal
@@ -19,3 +20,6 @@ returns-clause-whole_course c = has_whole_course
 
 pub returns-clause-figures : goal.returns-clause-figures
 returns-clause-figures c = reckoned
+
+pub returns-clause-accepts : goal.returns-clause-accepts
+returns-clause-accepts c = accepted c.open.result c.open.new.books.alarms.now c.open.new.books.unwatched.now _ c.args.log.now c.in_ok-new.field-0 c.in_ok-new.ensures c.type_inv.log c.open.ensures.value

@@ -1,0 +1,29 @@
+-- What a log says that is replayed without a fault.
+use Rattle.std.specs.Prelude.{◌≡◌, ℕ, ◌+◌, true, List, [], ◌∷◌, length, Some, None, Option}
+use Rattle.plantlog.specs.Format.{Fields, Table, Setup, Alternative, Count, Rearm, End}
+use Rattle.plantlog.specs.Laws.{AllWritable, log_bytes}
+use Rattle.daybook.specs.Books.{above}
+
+-- counts of rising days and rearms in any number, then one end, which names the counts: so many before, and these
+abbrev pub WatchedRecords : Option ℕ → ℕ → List Fields → Type 0
+WatchedRecords last counts (Count day n ∷ fs) = (above last day ≡ true) × WatchedRecords (Some day) (counts + 1) fs
+WatchedRecords last counts (Rearm ∷ fs) = WatchedRecords last counts fs
+WatchedRecords last counts (End n ∷ []) = n ≡ counts
+WatchedRecords last counts _ = ⊥
+
+-- bettor 2 has no alternative; for the others one comes first, with as many classes as the null table
+abbrev pub AfterSetup : ℕ → ℕ → List Fields → Type 0
+AfterSetup classes bettor (Alternative ws ∷ fs) = (bettor ≡ 2 → ⊥) × (length ws ≡ classes) × WatchedRecords None 0 fs
+AfterSetup classes bettor fs = (bettor ≡ 2) × WatchedRecords None 0 fs
+
+-- a table, a setup, and what that asks for
+abbrev pub LogRecords : List Fields → Type 0
+LogRecords (Table ws ∷ Setup threshold rule bettor ∷ fs) = AfterSetup (length ws) bettor fs
+LogRecords _ = ⊥
+
+-- the log is the writing of such records, and of nothing else
+pub record Accepted (log : List ℕ) : Type 0 where
+  pub records : List Fields
+  pub ordered : LogRecords records
+  pub writable : AllWritable records
+  pub written : log ≡ log_bytes records
