@@ -92,9 +92,8 @@ of_events (Rearmed ∷ es) (Next f m rest) at last counts n k of rising named en
 -- a replay that comes to its end
 ends : (t : Terms) (p : Places) (s : Stream) (at : Spot) (w : Watch) → (watching t p s at w).fault ≡ None → Left w.last w.counts s
 ends t p s at w none =
-    let whole = has_whole_course t p s at w in
-    let c = whole.course in
-    let end = subst (λ (x : Option Fault). Reached (free_in p (watching t p s at w).watch) (watching t p s at w).watch (spot_behind c.events s at) (behind_all c.events s) x) none whole.reached in
+    let c = has_whole_course t p s at w in
+    let end = subst (λ (x : Option Fault). Reached (free_in p (watching t p s at w).watch) (watching t p s at w).watch (spot_behind c.events s at) (behind_all c.events s) x) none c.reached in
     of_events c.events s at w.last w.counts end.0 _ c.of_log c.rising c.counts end.1
 
 -- what a replay without a fault tells

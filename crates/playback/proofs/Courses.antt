@@ -1,4 +1,4 @@
--- Every replay has a course, and it leaves no record out.
+-- Every replay has a course that leaves no record out.
 use Rattle.std.proofs.Common.{◌≡◌, ℕ, ◌+◌, ◌-◌, ◌*◌, ◌<◌, ◌≤◌, Bool, true, false, cond, ◌&&◌, eqb, ltb, leb, List, [], ◌∷◌, ◌++◌, length, None, Ok, Err, Option, Result, sym, refl, ap, ◌∙◌, subst, ap₂, inl, inr, append_assoc, arith}
 use Rattle.std.proofs.lemmas.List.{append-nil, length-append}
 use Rattle.std.proofs.lemmas.Bool.{eqb-true}
@@ -28,23 +28,21 @@ use Rattle.daybook.specs.declared.fault.BookFault.TheVariants.{Full}
 use Rattle.playback.specs.Stream.{Stream, Over, Broken, Next}
 use Rattle.playback.specs.Watch.{Watch, Places, Done, faulted, counted, alarm_if, Round, shown, watched, round_done, full, passed, by_state, restood, count_read, rearm_read}
 use Rattle.playback.specs.Replaying.{Spot, behind, Finish, went, stopped, fault_at, at_end, watching}
-use Rattle.playback.specs.Course.{Event, Settled, Passed, Rearmed, after_event, after_all, alarm_of, alarms_of, unwatched_of, passed_in, day_of, days_of, RisingDays, last_day, free_in, free_after, Rightly, AllRightly, EventOf, NoCount, NotTaken, Reached, HasCourse, WholeCourse, HasWholeCourse}
+use Rattle.playback.specs.Course.{Event, Settled, Passed, Rearmed, after_event, after_all, alarm_of, alarms_of, unwatched_of, passed_in, day_of, days_of, RisingDays, last_day, free_in, free_after, Rightly, AllRightly, EventOf, NoCount, NotTaken, Reached, WholeCourse, HasWholeCourse}
 use Rattle.playback.proofs.Counting.{settled_fits}
 
 -- nothing more happens
 no_event : (t : Terms) (p : Places) (s : Stream) (at : Spot) (w : Watch) (x : Option Fault) → Reached (free_in p w) w at s x → WholeCourse t p s at w (stopped w x)
 no_event t p s at w x to = record {
-  course = record {
-    events = [];
-    standing = refl;
-    alarms = sym (append-nil w.alarms);
-    unwatched = sym (append-nil w.unwatched);
-    counts = omega arith;
-    last = refl;
-    rising = tt;
-    rightly = tt;
-    of_log = tt;
-  };
+  events = [];
+  of_log = tt;
+  rightly = tt;
+  rising = tt;
+  standing = refl;
+  alarms = sym (append-nil w.alarms);
+  unwatched = sym (append-nil w.unwatched);
+  counts = omega arith;
+  last = refl;
   reached = to;
 }
 
@@ -85,25 +83,22 @@ rising_on last Rearmed days here later = later
 -- one event, and then the rest
 begins : (t : Terms) (p : Places) (f : Fields) (n : ℕ) (rest : Stream) (at : Spot) (w w1 : Watch) (end : Finish) (e : Event) → Leads t p f at w w1 e →
     WholeCourse t p rest (behind at n) w1 end → WholeCourse t p (Next f n rest) at w end
-begins t p f n rest at w w1 end e l whole =
-    let c = whole.course in
+begins t p f n rest at w w1 end e l c =
     let days = days_of c.events in
     record {
-      course = record {
-        events = e ∷ c.events;
-        standing = c.standing ∙ ap (λ s. after_all t s c.events) l.standing;
-        alarms = c.alarms ∙ ap₂ (λ a s. a ++ alarms_of t s c.events) l.alarms l.standing ∙ append_assoc w.alarms (alarm_of t w.standing e) (alarms_of t (after_event t w.standing e) c.events);
-        unwatched = c.unwatched ∙ ap (λ u. u ++ unwatched_of c.events) l.unwatched ∙ append_assoc w.unwatched (passed_in e) (unwatched_of c.events);
-        counts = omega (arith, c.counts, l.counts, length-append (day_of e) days);
-        last = c.last ∙ ap (λ x. last_day x days) l.last ∙ last_on w.last e days;
-        rising = rising_on w.last e days l.rising (subst (λ (x : Option ℕ). RisingDays x days) l.last c.rising);
-        rightly = (
-          l.rightly,
-          subst (λ (free : Places). AllRightly t free (after_event t w.standing e) c.events) (frees t p f at w w1 e l) (subst (λ (s : Standing). AllRightly t (free_in p w1) s c.events) l.standing c.rightly),
-        );
-        of_log = (l.of, c.of_log);
-      };
-      reached = whole.reached;
+      events = e ∷ c.events;
+      of_log = (l.of, c.of_log);
+      rightly = (
+        l.rightly,
+        subst (λ (free : Places). AllRightly t free (after_event t w.standing e) c.events) (frees t p f at w w1 e l) (subst (λ (s : Standing). AllRightly t (free_in p w1) s c.events) l.standing c.rightly),
+      );
+      rising = rising_on w.last e days l.rising (subst (λ (x : Option ℕ). RisingDays x days) l.last c.rising);
+      standing = c.standing ∙ ap (λ s. after_all t s c.events) l.standing;
+      alarms = c.alarms ∙ ap₂ (λ a s. a ++ alarms_of t s c.events) l.alarms l.standing ∙ append_assoc w.alarms (alarm_of t w.standing e) (alarms_of t (after_event t w.standing e) c.events);
+      unwatched = c.unwatched ∙ ap (λ u. u ++ unwatched_of c.events) l.unwatched ∙ append_assoc w.unwatched (passed_in e) (unwatched_of c.events);
+      counts = omega (arith, c.counts, l.counts, length-append (day_of e) days);
+      last = c.last ∙ ap (λ x. last_day x days) l.last ∙ last_on w.last e days;
+      reached = c.reached;
     }
 
 -- a book that is not full has a free place
@@ -253,6 +248,3 @@ has_whole_course t p (Next (Count day count) n rest) at w = count_course t p n r
 has_whole_course t p (Next Rearm n rest) at w =
     rearm_course t p n rest (λ at' w'. has_whole_course t p rest at' w') at w.standing.state w.standing.ledger w.standing.rounds w.standing.alarms w.standing.row w.standing.play w.last w.counts w.alarms w.unwatched
 has_whole_course t p (Next (End counts) n rest) at w = end_course t p counts n rest at w (eqb counts w.counts) refl
-
-pub has_course : HasCourse
-has_course t p s at w = (has_whole_course t p s at w).course

@@ -112,22 +112,6 @@ EventsOf (e ∷ es) Over at = ⊥
 EventsOf (e ∷ es) (Broken f) at = ⊥
 EventsOf (e ∷ es) (Next f n rest) at = EventOf e f at.number × EventsOf es rest (behind at n)
 
--- from w to w' by events of the log's records: these are all that the monitor and the two books saw
-pub record Course (t : Terms) (p : Places) (s : Stream) (at : Spot) (w w' : Watch) : Type 0 where
-  pub events : List Event
-  pub standing : w'.standing ≡ after_all t w.standing events
-  pub alarms : w'.alarms ≡ w.alarms ++ alarms_of t w.standing events
-  pub unwatched : w'.unwatched ≡ w.unwatched ++ unwatched_of events
-  pub counts : w'.counts ≡ w.counts + length (days_of events)
-  pub last : w'.last ≡ last_day w.last (days_of events)
-  pub rising : RisingDays w.last (days_of events)
-  pub rightly : AllRightly t (free_in p w) w.standing events
-  pub of_log : EventsOf events s at
-
--- every replay has such a course, to its end or to its fault
-abbrev pub HasCourse : Type 0
-HasCourse = (t : Terms) (p : Places) (s : Stream) (at : Spot) (w : Watch) → Course t p s at w (watching t p s at w).watch
-
 -- the records behind those that the events are of, and where they begin
 abbrev pub behind_all : List Event → Stream → Stream
 behind_all [] s = s
@@ -175,11 +159,20 @@ Reached free w at left (Some f) =
     (NotTaken free w left f.cause × (Some f ≡ fault_at at f.cause))
     ⊎ ((n : ℕ) × (rest : Stream) × (left ≡ Next (End w.counts) n rest) × (rest ≡ Over → ⊥) × (Some f ≡ fault_at (behind at n) Trailing))
 
--- a course to a finish that leaves no record out
+-- from w to a finish by events of the log's records: these are all that the monitor and the two books saw, and no record
+-- is left out
 pub record WholeCourse (t : Terms) (p : Places) (s : Stream) (at : Spot) (w : Watch) (f : Finish) : Type 0 where
-  pub course : Course t p s at w f.watch
-  pub reached : Reached (free_in p f.watch) f.watch (spot_behind course.events s at) (behind_all course.events s) f.fault
+  pub events : List Event
+  pub of_log : EventsOf events s at
+  pub rightly : AllRightly t (free_in p w) w.standing events
+  pub rising : RisingDays w.last (days_of events)
+  pub standing : f.watch.standing ≡ after_all t w.standing events
+  pub alarms : f.watch.alarms ≡ w.alarms ++ alarms_of t w.standing events
+  pub unwatched : f.watch.unwatched ≡ w.unwatched ++ unwatched_of events
+  pub counts : f.watch.counts ≡ w.counts + length (days_of events)
+  pub last : f.watch.last ≡ last_day w.last (days_of events)
+  pub reached : Reached (free_in p f.watch) f.watch (spot_behind events s at) (behind_all events s) f.fault
 
--- every replay has such a whole course
+-- every replay has such a course, to its end or to its fault
 abbrev pub HasWholeCourse : Type 0
 HasWholeCourse = (t : Terms) (p : Places) (s : Stream) (at : Spot) (w : Watch) → WholeCourse t p s at w (watching t p s at w)

@@ -2,7 +2,7 @@
 ghost use Rattle.std.specs.Prelude.{◌≡◌, None, IfOk};
 ghost use Rattle.daybook.specs.Books.{Behind};
 ghost use Rattle.playback.specs.Accepted.{Accepted};
-ghost use Rattle.playback.specs.Course.{HasCourse, HasWholeCourse};
+ghost use Rattle.playback.specs.Course.{HasWholeCourse};
 ghost use Rattle.playback.specs.Figures.{Figures};
 ghost use Rattle.playback.specs.Held.{places_in};
 ghost use Rattle.playback.specs.Replayed.{replay_of};
@@ -18,7 +18,7 @@ use daybook::entry::alarm::Alarm;
 use daybook::entry::unwatched::Unwatched;
 
 // Both books begin empty, and keep at a fault what earlier records entered. Every replay has a course of events, which
-// say what became of each count and rearm.
+// say what became of each count and rearm, and why it ended; without a fault the log holds what it should and no more.
 pub fn replay(
     log: &[u8],
     alarms: &mut Book<'_, Alarm>,
@@ -28,7 +28,6 @@ pub fn replay(
     ensures places { places_in alarms.new unwatched.new ≡ places_in alarms.old unwatched.old }
     ensures unused { Behind alarms.old.places.now alarms.new × Behind unwatched.old.places.now unwatched.new }
     ensures accepts { IfOk result (λ run. run.fault ≡ None → Accepted log.now) }
-    ensures course { HasCourse }
     ensures whole_course { HasWholeCourse }
     ensures figures { Figures }
 {

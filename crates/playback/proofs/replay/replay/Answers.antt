@@ -1,19 +1,13 @@
 use Rattle.playback.proofs.Accepts.{accepted}
-use Rattle.playback.proofs.Courses.{has_course, has_whole_course}
+use Rattle.playback.proofs.Courses.{has_whole_course}
 use Rattle.playback.proofs.Reckoned.{reckoned}
 use Rattle.playback.proofs.replay.replay.Goals as goal
-
-pub returns-in_err-new-clause-course : goal.returns-in_err-new-clause-course
-returns-in_err-new-clause-course c = has_course
 
 pub returns-in_err-new-clause-whole_course : goal.returns-in_err-new-clause-whole_course
 returns-in_err-new-clause-whole_course c = has_whole_course
 
 pub returns-in_err-new-clause-figures : goal.returns-in_err-new-clause-figures
 returns-in_err-new-clause-figures c = reckoned
-
-pub returns-clause-course : goal.returns-clause-course
-returns-clause-course c = has_course
 
 pub returns-clause-whole_course : goal.returns-clause-whole_course
 returns-clause-whole_course c = has_whole_course
