@@ -111,6 +111,9 @@ none_free places used e = let all : leb places used ≡ true = e in grind (arith
 spent : (rounds : ℕ) → ltb rounds 1000000 ≡ false → 1000000 ≤ rounds
 spent rounds e = grind (arith, nat_tests)
 
+some_left : (rounds : ℕ) → ltb rounds 1000000 ≡ true → rounds < 1000000
+some_left rounds e = grind (arith, nat_tests)
+
 other_count : (counts n : ℕ) → eqb counts n ≡ false → counts ≡ n → ⊥
 other_count counts n e same = grind (arith, nat_tests)
 
@@ -160,7 +163,7 @@ module _ (t : Terms) (p : Places) (n : ℕ) (rest : Stream) (ih : (at : Spot) (w
         let next_is = armed_next t m r al row play day count left in
         record {
           of = refl;
-          rightly = (refl, has_free p.alarms (length ents) room, ap (λ s. s.ledger) next_is);
+          rightly = (refl, some_left r left, has_free p.alarms (length ents) room, ap (λ s. s.ledger) next_is);
           standing = sym next_is;
           alarms = alarm_behind rang day after ents ∙ ap (λ s. ents ++ alarm_if (leb (t.threshold * bet) s.ledger) day s []) (sym next_is);
           unwatched = sym (append-nil us);

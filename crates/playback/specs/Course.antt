@@ -87,11 +87,11 @@ free_after t s free e = record { alarms = free.alarms - length (alarm_of t s e);
 abbrev pub recursion : Terms → Standing → ℕ → ℕ
 recursion t s count = (t.base s.ledger * slice_index (s.play []) (class_of (length t.nulls) count)) / 4096
 
--- a count is settled while the monitor is armed, by the recursion, and passed over while it rings; the book that it may
--- need has a free place. A rearm is taken unless a bet is staked
+-- a count is settled while the monitor is armed and has rounds left, by the recursion, and passed over while it rings;
+-- the book that it may need has a free place. A rearm is taken unless a bet is staked
 abbrev pub Rightly : Terms → Places → Standing → Event → Type 0
 Rightly t free s (Settled day count) =
-    (s.state ≡ Armed) × (0 < free.alarms) × ((after_event t s (Settled day count)).ledger ≡ recursion t s count)
+    (s.state ≡ Armed) × (s.rounds < 1000000) × (0 < free.alarms) × ((after_event t s (Settled day count)).ledger ≡ recursion t s count)
 Rightly t free s (Passed day number) = (s.state ≡ Rung) × (0 < free.unwatched)
 Rightly t free s Rearmed = s.state ≡ Staked → ⊥
 
