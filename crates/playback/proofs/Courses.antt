@@ -62,7 +62,7 @@ record Leads (t : Terms) (p : Places) (f : Fields) (at : Spot) (w w1 : Watch) (e
   pub rising : RisingDays w.last (day_of e)
 
 -- what is free behind more entries
-fewer : {X : Type 0} (n : ℕ) (xs ys zs : List X) → zs ≡ xs ++ ys → n - length zs ≡ n - length xs - length ys
+pub fewer : {X : Type 0} (n : ℕ) (xs ys zs : List X) → zs ≡ xs ++ ys → n - length zs ≡ n - length xs - length ys
 fewer n xs ys zs e = omega (arith, ap length e, length-append xs ys)
 
 frees : (t : Terms) (p : Places) (f : Fields) (at : Spot) (w w1 : Watch) (e : Event) → Leads t p f at w w1 e → free_in p w1 ≡ free_after t w.standing (free_in p w) e
@@ -70,7 +70,7 @@ frees t p f at w w1 e l =
     ap₂ (λ a u. record { alarms = a; unwatched = u }) (fewer p.alarms w.alarms (alarm_of t w.standing e) w1.alarms l.alarms) (fewer p.unwatched w.unwatched (passed_in e) w1.unwatched l.unwatched)
 
 -- the last day and the rising of days, day after day
-last_on : (last : Option ℕ) (e : Event) (days : List ℕ) → last_day (last_day last (day_of e)) days ≡ last_day last (day_of e ++ days)
+pub last_on : (last : Option ℕ) (e : Event) (days : List ℕ) → last_day (last_day last (day_of e)) days ≡ last_day last (day_of e ++ days)
 last_on last (Settled day count) days = refl
 last_on last (Passed day number) days = refl
 last_on last Rearmed days = refl
@@ -121,12 +121,12 @@ abbrev watch : Standing → Option ℕ → ℕ → List AlarmView → List Unwat
 watch s last counts ents us = record { standing = s; last = last; counts = counts; alarms = ents; unwatched = us }
 
 -- an alarm is put behind those before it
-alarm_behind : (b : Bool) (day : ℕ) (s : Standing) (ents : List AlarmView) → alarm_if b day s ents ≡ ents ++ alarm_if b day s []
+pub alarm_behind : (b : Bool) (day : ℕ) (s : Standing) (ents : List AlarmView) → alarm_if b day s ents ≡ ents ++ alarm_if b day s []
 alarm_behind true day s ents = refl
 alarm_behind false day s ents = sym (append-nil ents)
 
 -- what an armed monitor with rounds left does with a count
-armed_next : (t : Terms) (m r al : ℕ) (row : List ℕ) (play : Strategy) (day count : ℕ) → ltb r 1000000 ≡ true →
+pub armed_next : (t : Terms) (m r al : ℕ) (row : List ℕ) (play : Strategy) (day count : ℕ) → ltb r 1000000 ≡ true →
     after_event t (standing Armed m r al row play) (Settled day count) ≡ settled t (standing Staked m r al (play []) play) (class_of (length t.nulls) count)
 armed_next t m r al row play day count left =
     let tags : eqb t.tag t.tag ≡ true = grind (arith, nat_tests) in

@@ -176,3 +176,7 @@ pub record WholeCourse (t : Terms) (p : Places) (s : Stream) (at : Spot) (w : Wa
 -- every replay has such a course, to its end or to its fault
 abbrev pub HasWholeCourse : Type 0
 HasWholeCourse = (t : Terms) (p : Places) (s : Stream) (at : Spot) (w : Watch) → WholeCourse t p s at w (watching t p s at w)
+
+-- and what has such a course is what the replay comes to: the course leaves nothing open
+abbrev pub OneFinish : Type 0
+OneFinish = (t : Terms) (p : Places) (s : Stream) (at : Spot) (w : Watch) (f : Finish) → WholeCourse t p s at w f → f ≡ watching t p s at w

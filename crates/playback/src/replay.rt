@@ -2,7 +2,7 @@
 ghost use Rattle.std.specs.Prelude.{◌≡◌, None, IfOk};
 ghost use Rattle.daybook.specs.Books.{Behind};
 ghost use Rattle.playback.specs.Accepted.{Accepted};
-ghost use Rattle.playback.specs.Course.{HasWholeCourse};
+ghost use Rattle.playback.specs.Course.{HasWholeCourse, OneFinish};
 ghost use Rattle.playback.specs.Figures.{Figures};
 ghost use Rattle.playback.specs.Held.{places_in};
 ghost use Rattle.playback.specs.Replayed.{replay_of};
@@ -29,6 +29,7 @@ pub fn replay(
     ensures unused { Behind alarms.old.places.now alarms.new × Behind unwatched.old.places.now unwatched.new }
     ensures accepts { IfOk result (λ run. run.fault ≡ None → Accepted log.now) }
     ensures whole_course { HasWholeCourse }
+    ensures one_finish { OneFinish }
     ensures figures { Figures }
 {
     let mut books = Books { alarms, unwatched };

@@ -1,5 +1,6 @@
 use Rattle.playback.proofs.Accepts.{accepted}
 use Rattle.playback.proofs.Courses.{has_whole_course}
+use Rattle.playback.proofs.Only.{one_finish}
 use Rattle.playback.proofs.Reckoned.{reckoned}
 use Rattle.playback.proofs.replay.replay.Goals as goal
 
@@ -14,6 +15,12 @@ returns-clause-whole_course c = has_whole_course
 
 pub returns-clause-figures : goal.returns-clause-figures
 returns-clause-figures c = reckoned
+
+pub returns-in_err-new-clause-one_finish : goal.returns-in_err-new-clause-one_finish
+returns-in_err-new-clause-one_finish c = one_finish
+
+pub returns-clause-one_finish : goal.returns-clause-one_finish
+returns-clause-one_finish c = one_finish
 
 pub returns-clause-accepts : goal.returns-clause-accepts
 returns-clause-accepts c = accepted c.open.result c.open.new.books.alarms.now c.open.new.books.unwatched.now _ c.args.log.now c.in_ok-new.field-0 c.in_ok-new.ensures c.type_inv.log c.open.ensures.value
