@@ -7,7 +7,6 @@ use Rattle.edetector.specs.declared.value.ValueFault.TheVariants.{Alternative as
 use Rattle.edetector.specs.Tables.{from_to}
 use Rattle.edetector.specs.Bettors.{Strategy, adaptive, no_tally}
 use Rattle.edetector.specs.Ledger.{Terms}
-use Rattle.edetector.specs.View.{terms}
 use Rattle.plantlog.specs.Bytes.{Bytes}
 use Rattle.plantlog.specs.Calls.{span}
 use Rattle.plantlog.specs.Results.{of_ok, and_then}
@@ -24,8 +23,8 @@ use Rattle.playback.specs.declared.stop.Fault.{Fault}
 use Rattle.playback.specs.declared.stop.ReplayFault.TheVariants.{Value, TooLong}
 use Rattle.playback.specs.Accepted.{WatchedRecords, AfterSetup, LogRecords, Accepted}
 use Rattle.playback.specs.Course.{Event, Settled, Passed, Rearmed, days_of, RisingDays, free_in, EventsOf, behind_all, spot_behind, Reached}
-use Rattle.playback.specs.Front.{Settings, only_alternative}
-use Rattle.playback.specs.Replayed.{Said, Unmade, Made, Replay, begun, finished, no_monitor, monitored, with_alternative, third, after_table, replayed, head_of, rule_base}
+use Rattle.playback.specs.Front.{Settings}
+use Rattle.playback.specs.Replayed.{Said, Unmade, Made, Replay, begun, finished, no_monitor, monitored, with_alternative, alternative_of, third, after_table, replayed, head_of}
 use Rattle.playback.specs.Replaying.{Spot, behind, watching}
 use Rattle.playback.specs.Stream.{Stream, Over, Broken, Next, opened, stream_by, stream_of}
 use Rattle.playback.specs.Rest.{Rest, whole, at_spot, taken_whole}
@@ -102,13 +101,12 @@ NoFault (Unmade f) = ⊥
 NoFault (Made classes total threshold rule told fault) = fault ≡ None
 
 module _ (p : Places) (ws : List ℕ) (x : Settings) where
-  made_by : (play : Strategy) (rest : Stream) (at : Spot) (b : Bool) → let t = terms ws (rule_base x.rule) x.threshold 1 in
-      NoFault (cond b (finished ws x t (watching t p rest at (begun play))) (no_monitor at (Value Threshold))).said → Left None 0 rest
-  made_by play rest at true none = ends (terms ws (rule_base x.rule) x.threshold 1) p rest at (begun play) none
-  made_by play rest at false none = absurd none
+  made_by : (t : Terms) (play : Strategy) (rest : Stream) (at : Spot) (b : Bool) → NoFault (cond b (finished ws x t (watching t p rest at (begun play))) (no_monitor at (Value Threshold))).said → Left None 0 rest
+  made_by t play rest at true none = ends t p rest at (begun play) none
+  made_by t play rest at false none = absurd none
 
   made : (play : Strategy) (rest : Stream) (at : Spot) → NoFault (monitored p ws x play rest at).said → Left None 0 rest
-  made play rest at none = made_by play rest at (from_to 1 4096 x.threshold) none
+  made play rest at none = made_by _ play rest at (from_to 1 4096 x.threshold) none
 
   abbrev Behind : Stream → Type 0
   Behind s = (fs : List Fields) × Says s fs × AfterSetup (length ws) x.bettor fs
@@ -124,18 +122,19 @@ module _ (p : Places) (ws : List ℕ) (x : Settings) where
   straight (End n ∷ fs) two records = (two, records)
 
   by_classes : (alts : List ℕ) (n : ℕ) (rest : Stream) (at : Spot) → (x.bettor ≡ 2 → ⊥) → (b : Bool) → eqb (length alts) (length ws) ≡ b →
-      NoFault (cond b (monitored p ws x (with_alternative x.bettor ws alts) rest (behind at n)) (no_monitor at (Value UnlikeClasses))).said → Behind (Next (Alternative alts) n rest)
+      let s = Next (Alternative alts) n rest in
+      NoFault (third p ws x s at (cond b (Ok alts) (Err (Value UnlikeClasses)))).said → Behind s
   by_classes alts n rest at other true same none =
       let l = made (with_alternative x.bettor ws alts) rest (behind at n) none in
       (Alternative alts ∷ l.records, (refl, l.says), (other, eqb-true (length alts) (length ws) same, l.ordered))
   by_classes alts n rest at other false same none = absurd none
 
-  by_alternative : (s : Stream) (at : Spot) → (x.bettor ≡ 2 → ⊥) → NoFault (third p ws x s at (and_then (head_of s) only_alternative)).said → Behind s
+  by_alternative : (s : Stream) (at : Spot) → (x.bettor ≡ 2 → ⊥) → NoFault (third p ws x s at (alternative_of ws (head_of s))).said → Behind s
   by_alternative (Next (Alternative alts) n rest) at other none = by_classes alts n rest at other (eqb (length alts) (length ws)) refl none
   by_alternative _ at other none = absurd none
 
   by_bettor : (s : Stream) (at : Spot) (b : Bool) → eqb x.bettor 2 ≡ b →
-      NoFault (cond b (monitored p ws x (adaptive ws (no_tally (length ws))) s at) (third p ws x s at (and_then (head_of s) only_alternative))).said → Behind s
+      NoFault (cond b (monitored p ws x (adaptive ws (no_tally (length ws))) s at) (third p ws x s at (alternative_of ws (head_of s)))).said → Behind s
   by_bettor s at true two none =
       let l = made (adaptive ws (no_tally (length ws))) s at none in
       (l.records, l.says, straight l.records (eqb-true x.bettor 2 two) l.ordered)

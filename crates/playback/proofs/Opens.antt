@@ -1,6 +1,5 @@
 -- The header on plain data.
-use Rattle.std.proofs.Common.{◌≡◌, ℕ, Bool, true, false, cond, eqb, List, [], length, Ok, Err, Result, sym, refl, ap, ◌∙◌, ap₂}
-use Rattle.edetector.specs.declared.value.ValueFault.TheVariants.{Alternative as UnlikeClasses}
+use Rattle.std.proofs.Common.{◌≡◌, ℕ, false, eqb, List, [], length, Ok, Err, Result, sym, refl, ap, ◌∙◌, ap₂}
 use Rattle.edetector.specs.declared.fixed.Fixed.{Fixed as FixedBettor}
 use Rattle.edetector.specs.declared.adaptive.Adaptive.{Adaptive as AdaptiveBettor}
 use Rattle.edetector.specs.declared.mixture.Mixture.{Mixture as MixtureBettor}
@@ -14,14 +13,13 @@ use Rattle.playback.specs.declared.books.Books.{Books}
 use Rattle.playback.specs.declared.report.Run.{Run}
 use Rattle.playback.specs.declared.stop.Fault.{Fault}
 use Rattle.playback.specs.declared.stop.ReplayFault.{ReplayFault}
-use Rattle.playback.specs.declared.stop.ReplayFault.TheVariants.{Value}
 use Rattle.playback.specs.Front.{Settings, next_fields, only_table, only_setup, only_alternative}
 use Rattle.playback.specs.Held.{NothingYet}
 use Rattle.playback.specs.Stream.{Stream, stream_of}
 use Rattle.playback.specs.Watch.{Places}
 use Rattle.playback.specs.Replaying.{Spot, behind}
 use Rattle.playback.specs.Rest.{Rest, at_spot, behind_record}
-use Rattle.playback.specs.Replayed.{Replay, Unmade, rest_of, taken_of, monitored, with_alternative, as_many, alternative_for, third, after_setup, second, after_table, first, replayed}
+use Rattle.playback.specs.Replayed.{Replay, Unmade, rest_of, taken_of, monitored, with_alternative, as_many, alternative_of, alternative_for, third, after_setup, second, after_table, first, replayed}
 use Rattle.playback.specs.Told.{replay_told}
 use Rattle.playback.proofs.Steps.{streams, head_is}
 
@@ -46,20 +44,6 @@ accepted_by : {X Y : Type 0} (r : Result X ReplayFault) (go : X → Result Y Rep
 accepted_by (Ok x) go y e = (x, refl)
 accepted_by (Err f) go y e = cc
 
--- an alternative has as many classes as the null table
-level_ok : (ws alts xs : List ℕ) (b : Bool) → eqb (length xs) (length ws) ≡ b → ◌≡◌ {A = Result (List ℕ) ReplayFault} (Ok alts) (cond b (Ok xs) (Err (Value UnlikeClasses))) → (◌≡◌ {A = Result (List ℕ) ReplayFault} (Ok alts) (Ok xs)) × (eqb (length alts) (length ws) ≡ true)
-level_ok ws alts xs true level e = let same : alts ≡ xs = cc in (e, ap (λ (x : List ℕ). eqb (length x) (length ws)) same ∙ level)
-level_ok ws alts xs false level e = cc
-
-many_ok : (ws alts : List ℕ) (r : Result (List ℕ) ReplayFault) → Ok alts ≡ and_then r (as_many ws) → (Ok alts ≡ r) × (eqb (length alts) (length ws) ≡ true)
-many_ok ws alts (Err c) e = cc
-many_ok ws alts (Ok xs) e = level_ok ws alts xs (eqb (length xs) (length ws)) refl e
-
-level_err : (at : Spot) (alts : List ℕ) (made : Replay) (f : Fault) (b : Bool) → ◌≡◌ {A = Result (List ℕ) Fault} (Err f) (at_spot at (cond b (Ok alts) (Err (Value UnlikeClasses)))) →
-    unmade f ≡ cond b made (unmade (record { cause = Value UnlikeClasses; «record» = at.number; byte = at.byte }))
-level_err at alts made f true e = cc
-level_err at alts made f false e = let same : f ≡ record { cause = Value UnlikeClasses; «record» = at.number; byte = at.byte } = cc in ap unmade same
-
 module _ (p : Places) (rest : Rest) where
   -- the header by the next record
   is_first : first p (stream_of rest.left) rest.at (and_then (next_fields rest.left) only_table) ≡ replayed p (stream_of rest.left) rest.at
@@ -68,8 +52,8 @@ module _ (p : Places) (rest : Rest) where
   is_second : (ws : List ℕ) → second p ws (stream_of rest.left) rest.at (and_then (next_fields rest.left) only_setup) ≡ after_table p ws (stream_of rest.left) rest.at
   is_second ws = ap (λ r. second p ws (stream_of rest.left) rest.at (and_then r only_setup)) (sym (head_is rest.left))
 
-  is_third : (ws : List ℕ) (x : Settings) → eqb x.bettor 2 ≡ false → third p ws x (stream_of rest.left) rest.at (and_then (next_fields rest.left) only_alternative) ≡ after_setup p ws x (stream_of rest.left) rest.at
-  is_third ws x other = ap (λ r. third p ws x (stream_of rest.left) rest.at (and_then r only_alternative)) (sym (head_is rest.left)) ∙ rw other refl
+  is_third : (ws : List ℕ) (x : Settings) → eqb x.bettor 2 ≡ false → third p ws x (stream_of rest.left) rest.at (alternative_for ws rest.left) ≡ after_setup p ws x (stream_of rest.left) rest.at
+  is_third ws x other = ap (λ r. third p ws x (stream_of rest.left) rest.at (alternative_of ws r)) (sym (head_is rest.left)) ∙ rw other refl
 
   pub first_refused : (f : Fault) → Err f ≡ at_spot rest.at (and_then (next_fields rest.left) only_table) → unmade f ≡ replayed p (stream_of rest.left) rest.at
   first_refused f e = at_spot_err rest.at (first p (stream_of rest.left) rest.at) (λ c. refl) _ f e ∙ is_first
@@ -77,12 +61,8 @@ module _ (p : Places) (rest : Rest) where
   pub second_refused : (ws : List ℕ) (f : Fault) → Err f ≡ at_spot rest.at (and_then (next_fields rest.left) only_setup) → unmade f ≡ after_table p ws (stream_of rest.left) rest.at
   second_refused ws f e = at_spot_err rest.at (second p ws (stream_of rest.left) rest.at) (λ c. refl) _ f e ∙ is_second ws
 
-  refused_by : (ws : List ℕ) (x : Settings) (r : Result (List ℕ) ReplayFault) (f : Fault) → Err f ≡ at_spot rest.at (and_then r (as_many ws)) → unmade f ≡ third p ws x (stream_of rest.left) rest.at r
-  refused_by ws x (Err c) f e = at_spot_err rest.at (third p ws x (stream_of rest.left) rest.at) (λ c. refl) (Err c) f e
-  refused_by ws x (Ok alts) f e = level_err rest.at alts _ f (eqb (length alts) (length ws)) e
-
   pub third_refused : (ws : List ℕ) (x : Settings) (f : Fault) → eqb x.bettor 2 ≡ false → Err f ≡ at_spot rest.at (alternative_for ws rest.left) → unmade f ≡ after_setup p ws x (stream_of rest.left) rest.at
-  third_refused ws x f other e = refused_by ws x (and_then (next_fields rest.left) only_alternative) f e ∙ is_third ws x other
+  third_refused ws x f other e = at_spot_err rest.at (third p ws x (stream_of rest.left) rest.at) (λ c. refl) _ f e ∙ is_third ws x other
 
   -- bettor 2 needs no alternative
   pub goes_adaptive : (ws : List ℕ) (x : Settings) (play : Strategy) → x.bettor ≡ 2 → play ≡ adaptive ws (no_tally (length ws)) → monitored p ws x play (stream_of rest.left) rest.at ≡ after_setup p ws x (stream_of rest.left) rest.at
@@ -110,12 +90,11 @@ module _ (p : Places) (rest : Rest) where
     pub third_taken : (ws : List ℕ) (x : Settings) (alts : List ℕ) (play : Strategy) → eqb x.bettor 2 ≡ false → Ok alts ≡ at_spot rest.at (alternative_for ws rest.left) → play ≡ with_alternative x.bettor ws alts →
         monitored p ws x play (stream_of rest'.left) rest'.at ≡ after_setup p ws x (stream_of rest.left) rest.at
     third_taken ws x alts play other e plays =
-        let read = many_ok ws alts _ (at_spot_ok rest.at _ alts e) in
-        let f = accepted_by (next_fields rest.left) only_alternative alts read.0 in
-        let level = read.1 in
-        let taken : monitored p ws x (with_alternative x.bettor ws alts) (rest_of (stream_of rest.left)) (behind rest.at (taken_of (stream_of rest.left))) ≡ third p ws x (stream_of rest.left) rest.at (Ok alts) = rw level refl in
+        let read = at_spot_ok rest.at _ alts e in
+        let said = accepted_by (and_then (next_fields rest.left) only_alternative) (as_many ws) alts read in
+        let f = accepted_by (next_fields rest.left) only_alternative said.0 (sym said.1) in
         ap (λ q. monitored p ws x q (stream_of rest'.left) rest'.at) plays ∙ goes_on (monitored p ws x (with_alternative x.bettor ws alts)) f.0 f.1
-        ∙ taken ∙ ap (third p ws x (stream_of rest.left) rest.at) read.0 ∙ is_third ws x other
+        ∙ ap (third p ws x (stream_of rest.left) rest.at) read ∙ is_third ws x other
 
 -- behind a table and a setup
 pub header_taken : (p : Places) (rest rest1 rest2 : Rest) → rest1 ≡ behind_record rest → rest2 ≡ behind_record rest1 → (ws : List ℕ) (x : Settings) →

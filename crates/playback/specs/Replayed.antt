@@ -50,6 +50,7 @@ rest_of Over = Over
 rest_of (Broken e) = Over
 rest_of (Next f n rest) = rest
 
+-- a fault before the monitor is made
 abbrev pub no_monitor : Spot → ReplayFault → Replay
 no_monitor at cause = record { said = Unmade (record { cause = cause; «record» = at.number; byte = at.byte }); alarms = []; unwatched = [] }
 
@@ -57,6 +58,7 @@ no_monitor at cause = record { said = Unmade (record { cause = cause; «record»
 abbrev pub begun : Strategy → Watch
 begun play = record { standing = fresh play; last = None; counts = 0; alarms = []; unwatched = [] }
 
+-- what is told of a finish
 abbrev pub finished : List ℕ → Settings → Terms → Finish → Replay
 finished ws x t f = record {
   said = Made (length ws) (total ws) x.threshold x.rule (reading t f.watch.standing).answer f.fault;
@@ -74,23 +76,27 @@ monitored p ws x play rest at =
 abbrev pub with_alternative : ℕ → List ℕ → List ℕ → Strategy
 with_alternative b ws alts = cond (b == 1) (fixed ws alts) (mixture ws ws (fixed ws alts) (adaptive ws (no_tally (length ws))))
 
--- an alternative in front, which must have as many classes as the null table
+-- an alternative, which must have as many classes as the null table
 abbrev pub as_many : List ℕ → List ℕ → Result (List ℕ) ReplayFault
 as_many ws alts = cond (length alts == length ws) (Ok alts) (Err (Value UnlikeClasses))
 
-abbrev pub alternative_for : List ℕ → List ℕ → Result (List ℕ) ReplayFault
-alternative_for ws left = and_then (and_then (next_fields left) only_alternative) (as_many ws)
+abbrev pub alternative_of : List ℕ → Result Fields ReplayFault → Result (List ℕ) ReplayFault
+alternative_of ws head = and_then (and_then head only_alternative) (as_many ws)
 
+abbrev pub alternative_for : List ℕ → List ℕ → Result (List ℕ) ReplayFault
+alternative_for ws left = alternative_of ws (next_fields left)
+
+-- a third record, if the bettor needs one, and what follows it
 abbrev pub third : Places → List ℕ → Settings → Stream → Spot → Result (List ℕ) ReplayFault → Replay
-third p ws x s at (Ok alts) =
-    cond (length alts == length ws) (monitored p ws x (with_alternative x.bettor ws alts) (rest_of s) (behind at (taken_of s))) (no_monitor at (Value UnlikeClasses))
+third p ws x s at (Ok alts) = monitored p ws x (with_alternative x.bettor ws alts) (rest_of s) (behind at (taken_of s))
 third p ws x s at (Err f) = no_monitor at f
 
 -- bettor 2 is adaptive and has no alternative
 abbrev pub after_setup : Places → List ℕ → Settings → Stream → Spot → Replay
 after_setup p ws x s at =
-    cond (x.bettor == 2) (monitored p ws x (adaptive ws (no_tally (length ws))) s at) (third p ws x s at (and_then (head_of s) only_alternative))
+    cond (x.bettor == 2) (monitored p ws x (adaptive ws (no_tally (length ws))) s at) (third p ws x s at (alternative_of ws (head_of s)))
 
+-- a setup, and what follows it
 abbrev pub second : Places → List ℕ → Stream → Spot → Result Settings ReplayFault → Replay
 second p ws s at (Ok x) = after_setup p ws x (rest_of s) (behind at (taken_of s))
 second p ws s at (Err f) = no_monitor at f
@@ -98,6 +104,7 @@ second p ws s at (Err f) = no_monitor at f
 abbrev pub after_table : Places → List ℕ → Stream → Spot → Replay
 after_table p ws s at = second p ws s at (and_then (head_of s) only_setup)
 
+-- a table, and what follows it
 abbrev pub first : Places → Stream → Spot → Result (List ℕ) ReplayFault → Replay
 first p s at (Ok ws) = after_table p ws (rest_of s) (behind at (taken_of s))
 first p s at (Err f) = no_monitor at f
