@@ -1,16 +1,12 @@
 -- Every replay has a course that leaves no record out.
-use Rattle.std.proofs.Common.{◌≡◌, ℕ, ◌+◌, ◌-◌, ◌*◌, ◌<◌, ◌≤◌, Bool, true, false, cond, ◌&&◌, eqb, ltb, leb, List, [], ◌∷◌, ◌++◌, length, None, Ok, Err, Option, Result, sym, refl, ap, ◌∙◌, subst, ap₂, inl, inr, append_assoc, arith}
+use Rattle.std.proofs.Common.{◌≡◌, ℕ, ◌+◌, ◌-◌, ◌*◌, Bool, true, false, cond, eqb, ltb, leb, List, [], ◌∷◌, ◌++◌, length, None, Ok, Err, Option, Result, sym, refl, ap, ◌∙◌, subst, ap₂, inl, inr, append_assoc, arith}
 use Rattle.std.proofs.lemmas.List.{append-nil, length-append}
 use Rattle.std.proofs.lemmas.Bool.{eqb-true}
-use Rattle.std.proofs.lemmas.Bool.Decides.{nat_tests}
 use Rattle.edetector.specs.declared.state.State.{State}
 use Rattle.edetector.specs.declared.state.State.TheVariants.{Armed, Staked, Rung}
 use Rattle.edetector.specs.declared.slip.OpenSlip.{OpenSlip}
 use Rattle.edetector.specs.declared.fault.MonitorFault.{MonitorFault}
-use Rattle.edetector.specs.declared.fault.MonitorFault.TheVariants.{NotArmed, Spent, Misfit}
-use Rattle.edetector.specs.declared.fault.Refused.{Refused}
-use Rattle.edetector.specs.declared.slip.ShownSlip.{ShownSlip}
-use Rattle.edetector.specs.Plans.{next}
+use Rattle.edetector.specs.declared.fault.MonitorFault.TheVariants.{NotArmed, Spent}
 use Rattle.edetector.specs.Rules.{bet}
 use Rattle.edetector.specs.Tables.{class_of}
 use Rattle.edetector.specs.Bettors.{Strategy}
@@ -30,6 +26,7 @@ use Rattle.playback.specs.Watch.{Watch, Places, Done, faulted, counted, alarm_if
 use Rattle.playback.specs.Replaying.{Spot, behind, Finish, went, stopped, fault_at, at_end, watching}
 use Rattle.playback.specs.Course.{Event, Settled, Passed, Rearmed, after_event, after_all, alarm_of, alarms_of, unwatched_of, passed_in, day_of, days_of, RisingDays, last_day, free_in, free_after, Rightly, AllRightly, EventOf, NoCount, NotTaken, Reached, WholeCourse, HasWholeCourse}
 use Rattle.playback.proofs.Counting.{settled_fits}
+use Rattle.playback.proofs.Rounds.{has_free, none_free, spent, some_left, other_count, alarm_behind, armed_next}
 
 -- nothing more happens
 no_event : (t : Terms) (p : Places) (s : Stream) (at : Spot) (w : Watch) (x : Option Fault) → Reached (free_in p w) w at s x → WholeCourse t p s at w (stopped w x)
@@ -101,42 +98,8 @@ begins t p f n rest at w w1 end e l c =
       reached = c.reached;
     }
 
--- a book that is not full has a free place
-has_free : (places used : ℕ) → full places used ≡ false → 0 < places - used
-has_free places used e = let less : leb places used ≡ false = e in grind (arith, nat_tests)
-
-none_free : (places used : ℕ) → full places used ≡ true → places - used ≡ 0
-none_free places used e = let all : leb places used ≡ true = e in grind (arith, nat_tests)
-
-spent : (rounds : ℕ) → ltb rounds 1000000 ≡ false → 1000000 ≤ rounds
-spent rounds e = grind (arith, nat_tests)
-
-some_left : (rounds : ℕ) → ltb rounds 1000000 ≡ true → rounds < 1000000
-some_left rounds e = grind (arith, nat_tests)
-
-other_count : (counts n : ℕ) → eqb counts n ≡ false → counts ≡ n → ⊥
-other_count counts n e same = grind (arith, nat_tests)
-
 abbrev watch : Standing → Option ℕ → ℕ → List AlarmView → List Unwatched → Watch
 watch s last counts ents us = record { standing = s; last = last; counts = counts; alarms = ents; unwatched = us }
-
--- an alarm is put behind those before it
-pub alarm_behind : (b : Bool) (day : ℕ) (s : Standing) (ents : List AlarmView) → alarm_if b day s ents ≡ ents ++ alarm_if b day s []
-alarm_behind true day s ents = refl
-alarm_behind false day s ents = sym (append-nil ents)
-
--- what an armed monitor with rounds left does with a count
-pub armed_next : (t : Terms) (m r al : ℕ) (row : List ℕ) (play : Strategy) (day count : ℕ) → ltb r 1000000 ≡ true →
-    after_event t (standing Armed m r al row play) (Settled day count) ≡ settled t (standing Staked m r al (play []) play) (class_of (length t.nulls) count)
-armed_next t m r al row play day count left =
-    let tags : eqb t.tag t.tag ≡ true = grind (arith, nat_tests) in
-    let numbers : eqb (r + 1) (r + 1) ≡ true = grind (arith, nat_tests) in
-    let s = standing Armed m r al row play in
-    let u = standing Staked m r al (play []) play in
-    let k = class_of (length t.nulls) count in
-    let slip : ShownSlip = record { tag = t.tag; number = r + 1; count = count } in
-    ap (λ b. (next t (cond b (outcome {X = Result OpenSlip MonitorFault} (Ok (record { tag = t.tag; number = r + 1 })) (staked s)) (outcome (Err Spent) s)).after count).after) left
-    ∙ ap (λ b. (cond b (outcome {X = Result Bool (Refused ShownSlip)} (Ok (rings t u k)) (settled t u k)) (outcome (Err (record { fault = Misfit; slip = slip })) u)).after) (ap₂ (λ x y. x && y) tags numbers)
 
 module _ (t : Terms) (p : Places) (n : ℕ) (rest : Stream) (ih : (at : Spot) (w : Watch) → WholeCourse t p rest at w (watching t p rest at w)) (at : Spot) (day count : ℕ) where
   abbrev On : Watch → Done → Type 0

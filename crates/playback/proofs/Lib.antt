@@ -7,7 +7,9 @@ pub mod Fronts
 pub mod Listed
 pub mod Only
 pub mod Opens
+pub mod Readings
 pub mod Reckoned
 pub mod Rises
+pub mod Rounds
 pub mod Steps
 pub mod Streams

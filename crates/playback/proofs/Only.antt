@@ -1,32 +1,19 @@
 -- A finish that has a course is the one that the replay comes to.
-use Rattle.std.proofs.Common.{◌≡◌, ℕ, ◌+◌, ◌-◌, ◌*◌, ◌<◌, ◌≤◌, Bool, true, false, cond, eqb, ltb, leb, List, [], ◌∷◌, ◌++◌, length, Some, None, Ok, Err, Option, Result, sym, refl, ap, ◌∙◌, subst, ap₂, inl, inr, append_assoc, arith}
+use Rattle.std.proofs.Common.{◌≡◌, ℕ, ◌+◌, ◌<◌, true, cond, eqb, ltb, List, [], ◌∷◌, ◌++◌, length, Some, None, Ok, Err, Option, sym, refl, ap, ◌∙◌, subst, ap₂, inl, inr, append_assoc, arith}
 use Rattle.std.proofs.lemmas.List.{append-nil, length-append}
-use Rattle.std.proofs.lemmas.Bool.{eqb-true}
 use Rattle.std.proofs.lemmas.Bool.Decides.{nat_tests}
-use Rattle.edetector.specs.declared.state.State.{State}
-use Rattle.edetector.specs.declared.state.State.TheVariants.{Armed, Staked, Rung}
-use Rattle.edetector.specs.declared.slip.OpenSlip.{OpenSlip}
-use Rattle.edetector.specs.declared.fault.MonitorFault.{MonitorFault}
-use Rattle.edetector.specs.declared.fault.MonitorFault.TheVariants.{NotArmed, Spent}
-use Rattle.edetector.specs.Rules.{bet}
-use Rattle.edetector.specs.Tables.{class_of}
-use Rattle.edetector.specs.Bettors.{Strategy}
-use Rattle.edetector.specs.Ledger.{Terms, outcome, staked, settled, rings, rearming}
-use Rattle.edetector.specs.View.{standing}
+use Rattle.edetector.specs.Ledger.{Terms}
 use Rattle.plantlog.specs.Format.{Fields, Table, Setup, Alternative, Count, Rearm, End}
-use Rattle.daybook.specs.declared.fault.BookFault.TheVariants.{Full}
-use Rattle.daybook.specs.declared.entry.unwatched.Unwatched.{Unwatched}
-use Rattle.daybook.specs.Books.{above}
-use Rattle.daybook.specs.Entries.{AlarmView}
 use Rattle.playback.specs.declared.stop.ReplayFault.{ReplayFault}
-use Rattle.playback.specs.declared.stop.ReplayFault.TheVariants.{Monitor, Book, DayNotAbove, CountsDiffer, Trailing}
+use Rattle.playback.specs.declared.stop.ReplayFault.TheVariants.{CountsDiffer, Trailing}
 use Rattle.playback.specs.declared.stop.Fault.{Fault}
 use Rattle.playback.specs.Stream.{Stream, Over, Broken, Next}
-use Rattle.playback.specs.Watch.{Watch, Places, Done, taken, faulted, counted, alarm_if, shown, round_done, watched_count, full, passed, by_state, count_read, restood, rearm_read}
+use Rattle.playback.specs.Watch.{Watch, Places, Done, taken}
 use Rattle.playback.specs.Replaying.{Spot, behind, Finish, went, stopped, fault_at, at_end, watching}
-use Rattle.playback.specs.Course.{Event, Settled, Passed, Rearmed, after_event, after_all, alarm_of, alarms_of, unwatched_of, passed_in, day_of, days_of, RisingDays, last_day, free_in, AllRightly, EventsOf, behind_all, spot_behind, NoPlace, NoCount, NotTaken, Reached, OneFinish}
-use Rattle.playback.proofs.Counting.{settled_fits}
-use Rattle.playback.proofs.Courses.{fewer, last_on, alarm_behind, armed_next}
+use Rattle.playback.specs.Course.{Event, Settled, Passed, Rearmed, after_event, after_all, alarm_of, alarms_of, unwatched_of, passed_in, day_of, days_of, RisingDays, last_day, free_in, AllRightly, EventsOf, behind_all, spot_behind, NotTaken, Reached, OneFinish}
+use Rattle.playback.proofs.Courses.{fewer, last_on}
+use Rattle.playback.proofs.Rounds.{has_place, unlike}
+use Rattle.playback.proofs.Readings.{led, settled_read, passed_read, no_count, rearm_taken, rearm_led, rearm_refused}
 
 -- a course by its events
 record By (t : Terms) (p : Places) (s : Stream) (at : Spot) (w : Watch) (f : Finish) (events : List Event) : Type 0 where
@@ -39,16 +26,6 @@ record By (t : Terms) (p : Places) (s : Stream) (at : Spot) (w : Watch) (f : Fin
   pub counts : f.watch.counts ≡ w.counts + length (days_of events)
   pub last : f.watch.last ≡ last_day w.last (days_of events)
   pub reached : Reached (free_in p f.watch) f.watch (spot_behind events s at) (behind_all events s) f.fault
-
--- the watch that an event leaves
-abbrev led : Terms → Watch → Event → Watch
-led t w e = record {
-  standing = after_event t w.standing e;
-  last = last_day w.last (day_of e);
-  counts = w.counts + length (day_of e);
-  alarms = w.alarms ++ alarm_of t w.standing e;
-  unwatched = w.unwatched ++ passed_in e;
-}
 
 rising_later : (last : Option ℕ) (e : Event) (days : List ℕ) → RisingDays last (day_of e ++ days) → RisingDays (last_day last (day_of e)) days
 rising_later last (Settled day count) days r = r.1
@@ -72,111 +49,6 @@ later t p f n rest at w end e es c =
       reached = c.reached;
     }
 
-has_place : (places used : ℕ) → 0 < places - used → full places used ≡ false
-has_place places used e = let less : leb places used ≡ false = grind (arith, nat_tests) in less
-
-no_place : (places used : ℕ) → places - used ≡ 0 → full places used ≡ true
-no_place places used e = let all : leb places used ≡ true = grind (arith, nat_tests) in all
-
--- a count that is taken
-module _ (t : Terms) (p : Places) (number day count : ℕ) where
-  armed_read : (m r al : ℕ) (row : List ℕ) (play : Strategy) (last : Option ℕ) (counts : ℕ) (ents : List AlarmView) (us : List Unwatched) →
-      let w : Watch = record { standing = standing Armed m r al row play; last = last; counts = counts; alarms = ents; unwatched = us } in
-      above last day ≡ true → full p.alarms (length ents) ≡ false → ltb r 1000000 ≡ true → count_read t p w number day count ≡ taken (led t w (Settled day count))
-  armed_read m r al row play last counts ents us rises room left =
-      let w : Watch = record { standing = standing Armed m r al row play; last = last; counts = counts; alarms = ents; unwatched = us } in
-      let after = settled t (standing Staked m r al (play []) play) (class_of (length t.nulls) count) in
-      let rang = rings t (standing Staked m r al (play []) play) (class_of (length t.nulls) count) in
-      let next_is = armed_next t m r al row play day count left in
-      ap (λ b. cond b (by_state Armed t p w number day count) (faulted w DayNotAbove)) rises
-      ∙ ap (λ b. cond b (faulted w (Book Full)) (watched_count t w day count)) room
-      ∙ ap (λ b.
-      let o = cond b (outcome {X = Result OpenSlip MonitorFault} (Ok (record { tag = t.tag; number = r + 1 })) (staked w.standing)) (outcome (Err Spent) w.standing) in
-      let x = shown t ents day count o.answer o.after in
-      round_done w day x.answer x.standing x.alarms) left
-      ∙ ap (λ x. round_done w day x.answer x.standing x.alarms) (settled_fits t m r al (play []) play ents day count _ refl)
-      ∙ ap₂ (λ a u. taken (counted w day after a u)) (alarm_behind rang day after ents ∙ ap (λ s. ents ++ alarm_if (leb (t.threshold * bet) s.ledger) day s []) (sym next_is)) (sym (append-nil us))
-      ∙ ap (λ s. taken (counted w day s (ents ++ alarm_of t w.standing (Settled day count)) (us ++ []))) (sym next_is)
-
-  settled_read : (st : State) (m r al : ℕ) (row : List ℕ) (play : Strategy) (last : Option ℕ) (counts : ℕ) (ents : List AlarmView) (us : List Unwatched) →
-      let w : Watch = record { standing = standing st m r al row play; last = last; counts = counts; alarms = ents; unwatched = us } in
-      st ≡ Armed → above last day ≡ true → full p.alarms (length ents) ≡ false → ltb r 1000000 ≡ true → count_read t p w number day count ≡ taken (led t w (Settled day count))
-  settled_read Armed m r al row play last counts ents us is rises room left = armed_read m r al row play last counts ents us rises room left
-  settled_read Staked m r al row play last counts ents us is rises room left = cc
-  settled_read Rung m r al row play last counts ents us is rises room left = cc
-
-  by_state_is : (w : Watch) (st : State) → w.standing.state ≡ st → above w.last day ≡ true → count_read t p w number day count ≡ by_state st t p w number day count
-  by_state_is w st is rises = ap (λ b. cond b (by_state w.standing.state t p w number day count) (faulted w DayNotAbove)) rises ∙ ap (λ x. by_state x t p w number day count) is
-
-  passed_read : (w : Watch) → w.standing.state ≡ Rung → above w.last day ≡ true → full p.unwatched (length w.unwatched) ≡ false → count_read t p w number day count ≡ taken (led t w (Passed day number))
-  passed_read w is rises room =
-      by_state_is w Rung is rises ∙ ap (λ b. cond b (faulted w (Book Full)) (passed w number day)) room
-      ∙ ap (λ a. taken (counted w day w.standing a (w.unwatched ++ (record { day = day; «record» = number } ∷ [])))) (sym (append-nil w.alarms))
-
-  -- and one that is not
-  full_read : (w : Watch) (st : State) → NoPlace st (free_in p w) → by_state st t p w number day count ≡ faulted w (Book Full)
-  full_read w Armed none = ap (λ b. cond b (faulted w (Book Full)) (watched_count t w day count)) (no_place p.alarms (length w.alarms) none)
-  full_read w Staked none = ap (λ b. cond b (faulted w (Book Full)) (watched_count t w day count)) (no_place p.alarms (length w.alarms) none)
-  full_read w Rung none = ap (λ b. cond b (faulted w (Book Full)) (passed w number day)) (no_place p.unwatched (length w.unwatched) none)
-
-  staked_read : (st : State) (m r al : ℕ) (row : List ℕ) (play : Strategy) (last : Option ℕ) (counts : ℕ) (ents : List AlarmView) (us : List Unwatched) →
-      let w : Watch = record { standing = standing st m r al row play; last = last; counts = counts; alarms = ents; unwatched = us } in
-      st ≡ Staked → watched_count t w day count ≡ faulted w (Monitor NotArmed)
-  staked_read Armed m r al row play last counts ents us is = cc
-  staked_read Staked m r al row play last counts ents us is = refl
-  staked_read Rung m r al row play last counts ents us is = cc
-
-  spent_read : (st : State) (m r al : ℕ) (row : List ℕ) (play : Strategy) (last : Option ℕ) (counts : ℕ) (ents : List AlarmView) (us : List Unwatched) →
-      let w : Watch = record { standing = standing st m r al row play; last = last; counts = counts; alarms = ents; unwatched = us } in
-      st ≡ Armed → ltb r 1000000 ≡ false → watched_count t w day count ≡ faulted w (Monitor Spent)
-  spent_read Armed m r al row play last counts ents us is spent =
-      let w : Watch = record { standing = standing Armed m r al row play; last = last; counts = counts; alarms = ents; unwatched = us } in
-      ap (λ b.
-      let o = cond b (outcome {X = Result OpenSlip MonitorFault} (Ok (record { tag = t.tag; number = r + 1 })) (staked w.standing)) (outcome (Err Spent) w.standing) in
-      let x = shown t ents day count o.answer o.after in
-      round_done w day x.answer x.standing x.alarms) spent
-  spent_read Staked m r al row play last counts ents us is spent = cc
-  spent_read Rung m r al row play last counts ents us is spent = cc
-
-  no_count : (w : Watch) (cause : ReplayFault) → NoCount (free_in p w) w day cause → count_read t p w number day count ≡ faulted w cause
-  no_count w DayNotAbove below = ap (λ b. cond b (by_state w.standing.state t p w number day count) (faulted w DayNotAbove)) below
-  no_count w (Book Full) why = by_state_is w w.standing.state refl why.0 ∙ full_read w w.standing.state why.1
-  no_count w (Monitor NotArmed) why =
-      by_state_is w Staked why.2 why.0 ∙ ap (λ b. cond b (faulted w (Book Full)) (watched_count t w day count)) (has_place p.alarms (length w.alarms) why.1)
-      ∙ staked_read w.standing.state w.standing.ledger w.standing.rounds w.standing.alarms w.standing.row w.standing.play w.last w.counts w.alarms w.unwatched why.2
-  no_count w (Monitor Spent) why =
-      let much : 1000000 ≤ w.standing.rounds = why.3 in
-      let none : ltb w.standing.rounds 1000000 ≡ false = grind (arith, nat_tests) in
-      by_state_is w Armed why.2 why.0 ∙ ap (λ b. cond b (faulted w (Book Full)) (watched_count t w day count)) (has_place p.alarms (length w.alarms) why.1)
-      ∙ spent_read w.standing.state w.standing.ledger w.standing.rounds w.standing.alarms w.standing.row w.standing.play w.last w.counts w.alarms w.unwatched why.2 none
-  no_count w _ why = absurd why
-
--- a rearm
-module _ (t : Terms) where
-  rearm_taken : (st : State) (m r al : ℕ) (row : List ℕ) (play : Strategy) (last : Option ℕ) (counts : ℕ) (ents : List AlarmView) (us : List Unwatched) →
-      let w : Watch = record { standing = standing st m r al row play; last = last; counts = counts; alarms = ents; unwatched = us } in
-      (st ≡ Staked → ⊥) → rearm_read t w ≡ taken (restood w (rearming t w.standing).after)
-  rearm_taken Armed m r al row play last counts ents us calm = refl
-  rearm_taken Staked m r al row play last counts ents us calm = absurd (calm refl)
-  rearm_taken Rung m r al row play last counts ents us calm = refl
-
-  rearm_led : (w : Watch) → restood w (rearming t w.standing).after ≡ led t w Rearmed
-  rearm_led w =
-      let none : w.counts ≡ w.counts + 0 = omega arith in
-      ap (λ c. record { standing = (rearming t w.standing).after; last = w.last; counts = c; alarms = w.alarms; unwatched = w.unwatched }) none
-      ∙ ap₂ (λ a u. record { standing = (rearming t w.standing).after; last = w.last; counts = w.counts + 0; alarms = a; unwatched = u }) (sym (append-nil w.alarms)) (sym (append-nil w.unwatched))
-
-  rearm_refused : (st : State) (m r al : ℕ) (row : List ℕ) (play : Strategy) (last : Option ℕ) (counts : ℕ) (ents : List AlarmView) (us : List Unwatched) →
-      let w : Watch = record { standing = standing st m r al row play; last = last; counts = counts; alarms = ents; unwatched = us } in
-      st ≡ Staked → rearm_read t w ≡ faulted w (Monitor NotArmed)
-  rearm_refused Armed m r al row play last counts ents us is = cc
-  rearm_refused Staked m r al row play last counts ents us is = refl
-  rearm_refused Rung m r al row play last counts ents us is = cc
-
-other_count : (counts n : ℕ) → (counts ≡ n → ⊥) → (b : Bool) → eqb counts n ≡ b → eqb counts n ≡ false
-other_count counts n differ true e = absurd (differ (eqb-true counts n e))
-other_count counts n differ false e = e
-
 module _ (t : Terms) (p : Places) where
   -- where the next record stops the replay
   not_taken : (s : Stream) (at : Spot) (w : Watch) (cause : ReplayFault) → NotTaken (free_in p w) w s cause → watching t p s at w ≡ stopped w (fault_at at cause)
@@ -191,7 +63,7 @@ module _ (t : Terms) (p : Places) where
       ∙ ap (λ c. stopped w (fault_at at c)) (sym why.0)
   not_taken (Next (End counts) n rest) at w cause why =
       let differ = why.1 in
-      let other : eqb counts w.counts ≡ false = other_count counts w.counts differ (eqb counts w.counts) refl in
+      let other = unlike counts w.counts differ (eqb counts w.counts) refl in
       ap (λ b. went at (at_end rest (behind at n)) (cond b (Ok tt) (Err CountsDiffer)) w) other ∙ ap (λ c. stopped w (fault_at at c)) (sym why.0)
 
   ends : (s : Stream) (at : Spot) (w : Watch) (n : ℕ) (rest : Stream) → s ≡ Next (End w.counts) n rest → watching t p s at w ≡ at_end rest (behind at n) w

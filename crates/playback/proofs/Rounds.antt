@@ -1,0 +1,63 @@
+-- Free places, rounds left, and what an armed monitor does with a count.
+use Rattle.std.proofs.Common.{◌≡◌, ℕ, ◌+◌, ◌-◌, ◌<◌, ◌≤◌, Bool, true, false, cond, ◌&&◌, eqb, ltb, leb, List, [], ◌++◌, length, Ok, Err, Result, sym, refl, ap, ◌∙◌, ap₂, arith}
+use Rattle.std.proofs.lemmas.List.{append-nil}
+use Rattle.std.proofs.lemmas.Bool.{eqb-true}
+use Rattle.std.proofs.lemmas.Bool.Decides.{nat_tests}
+use Rattle.edetector.specs.declared.state.State.TheVariants.{Armed, Staked}
+use Rattle.edetector.specs.declared.slip.OpenSlip.{OpenSlip}
+use Rattle.edetector.specs.declared.fault.MonitorFault.{MonitorFault}
+use Rattle.edetector.specs.declared.fault.MonitorFault.TheVariants.{Spent, Misfit}
+use Rattle.edetector.specs.declared.fault.Refused.{Refused}
+use Rattle.edetector.specs.declared.slip.ShownSlip.{ShownSlip}
+use Rattle.edetector.specs.Plans.{next}
+use Rattle.edetector.specs.Tables.{class_of}
+use Rattle.edetector.specs.Bettors.{Strategy}
+use Rattle.edetector.specs.Ledger.{Terms, Standing, outcome, staked, settled, rings}
+use Rattle.edetector.specs.View.{standing}
+use Rattle.daybook.specs.Entries.{AlarmView}
+use Rattle.playback.specs.Watch.{alarm_if, full}
+use Rattle.playback.specs.Course.{Settled, after_event}
+
+-- a book that is not full has a free place
+pub has_free : (places used : ℕ) → full places used ≡ false → 0 < places - used
+has_free places used e = let less : leb places used ≡ false = e in grind (arith, nat_tests)
+
+pub none_free : (places used : ℕ) → full places used ≡ true → places - used ≡ 0
+none_free places used e = let all : leb places used ≡ true = e in grind (arith, nat_tests)
+
+pub spent : (rounds : ℕ) → ltb rounds 1000000 ≡ false → 1000000 ≤ rounds
+spent rounds e = grind (arith, nat_tests)
+
+pub some_left : (rounds : ℕ) → ltb rounds 1000000 ≡ true → rounds < 1000000
+some_left rounds e = grind (arith, nat_tests)
+
+pub other_count : (counts n : ℕ) → eqb counts n ≡ false → counts ≡ n → ⊥
+other_count counts n e same = grind (arith, nat_tests)
+
+pub has_place : (places used : ℕ) → 0 < places - used → full places used ≡ false
+has_place places used e = let less : leb places used ≡ false = grind (arith, nat_tests) in less
+
+pub no_place : (places used : ℕ) → places - used ≡ 0 → full places used ≡ true
+no_place places used e = let all : leb places used ≡ true = grind (arith, nat_tests) in all
+
+pub unlike : (counts n : ℕ) → (counts ≡ n → ⊥) → (b : Bool) → eqb counts n ≡ b → eqb counts n ≡ false
+unlike counts n differ true e = absurd (differ (eqb-true counts n e))
+unlike counts n differ false e = e
+
+-- an alarm is put behind those before it
+pub alarm_behind : (b : Bool) (day : ℕ) (s : Standing) (ents : List AlarmView) → alarm_if b day s ents ≡ ents ++ alarm_if b day s []
+alarm_behind true day s ents = refl
+alarm_behind false day s ents = sym (append-nil ents)
+
+-- what an armed monitor with rounds left does with a count
+pub armed_next : (t : Terms) (m r al : ℕ) (row : List ℕ) (play : Strategy) (day count : ℕ) → ltb r 1000000 ≡ true →
+    after_event t (standing Armed m r al row play) (Settled day count) ≡ settled t (standing Staked m r al (play []) play) (class_of (length t.nulls) count)
+armed_next t m r al row play day count left =
+    let tags : eqb t.tag t.tag ≡ true = grind (arith, nat_tests) in
+    let numbers : eqb (r + 1) (r + 1) ≡ true = grind (arith, nat_tests) in
+    let s = standing Armed m r al row play in
+    let u = standing Staked m r al (play []) play in
+    let k = class_of (length t.nulls) count in
+    let slip : ShownSlip = record { tag = t.tag; number = r + 1; count = count } in
+    ap (λ b. (next t (cond b (outcome {X = Result OpenSlip MonitorFault} (Ok (record { tag = t.tag; number = r + 1 })) (staked s)) (outcome (Err Spent) s)).after count).after) left
+    ∙ ap (λ b. (cond b (outcome {X = Result Bool (Refused ShownSlip)} (Ok (rings t u k)) (settled t u k)) (outcome (Err (record { fault = Misfit; slip = slip })) u)).after) (ap₂ (λ x y. x && y) tags numbers)
