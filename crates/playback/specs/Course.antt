@@ -8,7 +8,7 @@ use Rattle.edetector.specs.Ledger.{Terms, Standing, staking, rearming}
 use Rattle.edetector.specs.Plans.{next}
 use Rattle.edetector.specs.declared.fault.MonitorFault.TheVariants.{NotArmed, Spent}
 use Rattle.plantlog.specs.declared.fault.RecordFault.TheVariants.{NoneLeft}
-use Rattle.plantlog.specs.Format.{Fields, Table, Setup, Alternative, Count, Rearm, End}
+use Rattle.plantlog.specs.Format.{Fields, Count, Rearm, End}
 use Rattle.daybook.specs.declared.fault.BookFault.TheVariants.{Full}
 use Rattle.daybook.specs.declared.entry.unwatched.Unwatched.{Unwatched}
 use Rattle.daybook.specs.Books.{above}
@@ -40,8 +40,7 @@ after_all t s (e ∷ es) = after_all t (after_event t s e) es
 abbrev pub alarm_of : Terms → Standing → Event → List AlarmView
 alarm_of t s (Settled day count) =
     let after = after_event t s (Settled day count) in alarm_if (nat_le (t.threshold * bet) after.ledger) day after []
-alarm_of t s (Passed day number) = []
-alarm_of t s Rearmed = []
+alarm_of t s _ = []
 
 abbrev pub alarms_of : Terms → Standing → List Event → List AlarmView
 alarms_of t s [] = []
@@ -49,9 +48,8 @@ alarms_of t s (e ∷ es) = alarm_of t s e ++ alarms_of t (after_event t s e) es
 
 -- the counts that were passed over, with day and record
 abbrev pub passed_in : Event → List Unwatched
-passed_in (Settled day count) = []
 passed_in (Passed day number) = record { day = day; «record» = number } ∷ []
-passed_in Rearmed = []
+passed_in _ = []
 
 abbrev pub unwatched_of : List Event → List Unwatched
 unwatched_of [] = []
@@ -144,12 +142,10 @@ NoCount free w day _ = ⊥
 abbrev pub NotTaken : Places → Watch → Stream → ReplayFault → Type 0
 NotTaken free w Over cause = cause ≡ Record NoneLeft
 NotTaken free w (Broken e) cause = cause ≡ Record e
-NotTaken free w (Next (Table ws) n rest) cause = cause ≡ NotAllowed
-NotTaken free w (Next (Setup a r b) n rest) cause = cause ≡ NotAllowed
-NotTaken free w (Next (Alternative ws) n rest) cause = cause ≡ NotAllowed
 NotTaken free w (Next (Count day count) n rest) cause = NoCount free w day cause
 NotTaken free w (Next Rearm n rest) cause = (cause ≡ Monitor NotArmed) × (w.standing.state ≡ Staked)
 NotTaken free w (Next (End counts) n rest) cause = (cause ≡ CountsDiffer) × (counts ≡ w.counts → ⊥)
+NotTaken free w (Next _ n rest) cause = cause ≡ NotAllowed
 
 -- a replay without a fault leaves only the end, which names the counts; one with a fault stops at the very next record,
 -- for its reason, or behind an end that names the counts, after which bytes follow

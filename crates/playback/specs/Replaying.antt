@@ -2,7 +2,7 @@
 use Rattle.std.specs.Prelude.{ℕ, ◌+◌, Some, None, Ok, Err, Option, Result}
 use Rattle.edetector.specs.Ledger.{Terms}
 use Rattle.plantlog.specs.declared.fault.RecordFault.TheVariants.{NoneLeft}
-use Rattle.plantlog.specs.Format.{Table, Setup, Alternative, Count, Rearm, End}
+use Rattle.plantlog.specs.Format.{Count, Rearm, End}
 use Rattle.playback.specs.declared.stop.ReplayFault.{ReplayFault}
 use Rattle.playback.specs.declared.stop.ReplayFault.TheVariants.{Record, NotAllowed, Trailing}
 use Rattle.playback.specs.declared.stop.Fault.{Fault}
@@ -39,10 +39,8 @@ at_end (Next f n rest) at w = stopped w (fault_at at Trailing)
 abbrev pub watching : Terms → Places → Stream → Spot → Watch → Finish
 watching t p Over at w = stopped w (fault_at at (Record NoneLeft))
 watching t p (Broken e) at w = stopped w (fault_at at (Record e))
-watching t p (Next (Table ws) n rest) at w = stopped w (fault_at at NotAllowed)
-watching t p (Next (Setup a r b) n rest) at w = stopped w (fault_at at NotAllowed)
-watching t p (Next (Alternative ws) n rest) at w = stopped w (fault_at at NotAllowed)
 watching t p (Next (Count day count) n rest) at w =
     let d = count_read t p w at.number day count in went at (watching t p rest (behind at n)) d.answer d.after
 watching t p (Next Rearm n rest) at w = let d = rearm_read t w in went at (watching t p rest (behind at n)) d.answer d.after
 watching t p (Next (End counts) n rest) at w = let d = end_read w counts in went at (at_end rest (behind at n)) d.answer d.after
+watching t p (Next _ n rest) at w = stopped w (fault_at at NotAllowed)
