@@ -30,6 +30,7 @@ use Rattle.playback.specs.Stream.{Stream, Over, Broken, Next, opened, stream_by,
 use Rattle.playback.specs.Rest.{Rest, whole, at_spot, taken_whole}
 use Rattle.playback.specs.Told.{replay_told}
 use Rattle.playback.specs.Watch.{Watch, Places}
+use Rattle.playback.proofs.OneReading.{only_records}
 use Rattle.playback.proofs.Courses.{has_whole_course}
 use Rattle.playback.proofs.Streams.{shorter}
 
@@ -62,8 +63,15 @@ reads_by (suc n) (b ∷ bs) fs short says =
 -- a log that says the records of a log is their writing
 written : (log : List ℕ) (fs : List Fields) → Bytes log → Says (stream_of log) fs → LogRecords fs → Accepted log
 written log fs bytes says ordered =
-    let so = log_written_so (length fs) log fs [] bytes (reads_by (length log) log fs (omega arith) says) in
-    record { records = fs; ordered = ordered; writable = so.1; written = so.0 ∙ append-nil (log_bytes fs) }
+    let read = reads_by (length log) log fs (omega arith) says in
+    let so = log_written_so (length fs) log fs [] bytes read in
+    record {
+      records = fs;
+      ordered = ordered;
+      writable = so.1;
+      written = so.0 ∙ append-nil (log_bytes fs);
+      only = only_records (length fs) log fs read;
+    }
 
 -- the records that are left, after so many counts to a day
 record Left (last : Option ℕ) (counts : ℕ) (s : Stream) : Type 0 where

@@ -5,6 +5,7 @@ pub mod Courses
 pub mod Emptied
 pub mod Fronts
 pub mod Listed
+pub mod OneReading
 pub mod Only
 pub mod Opens
 pub mod Readings

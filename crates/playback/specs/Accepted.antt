@@ -21,9 +21,10 @@ abbrev pub LogRecords : List Fields → Type 0
 LogRecords (Table ws ∷ Setup threshold rule bettor ∷ fs) = AfterSetup (length ws) bettor fs
 LogRecords _ = ⊥
 
--- the log is the writing of such records, and of nothing else
+-- the log is the writing of such records, and of no others
 pub record Accepted (log : List ℕ) : Type 0 where
   pub records : List Fields
   pub ordered : LogRecords records
   pub writable : AllWritable records
   pub written : log ≡ log_bytes records
+  pub only : (others : List Fields) → AllWritable others → log_bytes others ≡ log → others ≡ records
