@@ -4,7 +4,8 @@ use Rattle.plantlog.specs.Format.{Fields, Table, Setup, Alternative, Count, Rear
 use Rattle.plantlog.specs.Laws.{AllWritable, log_bytes}
 use Rattle.daybook.specs.Books.{above}
 
--- counts of rising days and rearms in any number, then one end, which names the counts: so many before, and these
+-- behind so many counts, the last of a day: counts whose days rise, and rearms, in any number, then one end, which names
+-- how many counts there were
 abbrev pub WatchedRecords : Option ℕ → ℕ → List Fields → Type 0
 WatchedRecords last counts (Count day n ∷ fs) = (above last day ≡ true) × WatchedRecords (Some day) (counts + 1) fs
 WatchedRecords last counts (Rearm ∷ fs) = WatchedRecords last counts fs
@@ -16,7 +17,7 @@ abbrev pub AfterSetup : ℕ → ℕ → List Fields → Type 0
 AfterSetup classes bettor (Alternative ws ∷ fs) = (bettor ≡ 2 → ⊥) × (length ws ≡ classes) × WatchedRecords None 0 fs
 AfterSetup classes bettor fs = (bettor ≡ 2) × WatchedRecords None 0 fs
 
--- a table, a setup, and what that asks for
+-- a table and a setup first
 abbrev pub LogRecords : List Fields → Type 0
 LogRecords (Table ws ∷ Setup threshold rule bettor ∷ fs) = AfterSetup (length ws) bettor fs
 LogRecords _ = ⊥
