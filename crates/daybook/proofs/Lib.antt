@@ -1,4 +1,3 @@
 pub mod Digits
-pub mod Entering
 pub mod LastDay
 pub mod Listing

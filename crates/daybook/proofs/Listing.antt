@@ -5,7 +5,7 @@ use Rattle.std.proofs.lemmas.List.{append_assoc, append-nil, take_more}
 use Rattle.daybook.specs.declared.entry.alarm.Alarm.{Alarm}
 use Rattle.daybook.specs.declared.entry.unwatched.Unwatched.{Unwatched}
 use Rattle.daybook.specs.Entries.{alarm_view}
-use Rattle.daybook.specs.Lines.{printed_lines, lines, alarm_line, alarm_lines, unwatched_line, unwatched_lines}
+use Rattle.daybook.specs.Lines.{ended_line, printed_lines, lines, alarm_line, unwatched_line}
 
 -- what stands behind `old`, with the text of o put before that of p
 joined : (old w t : List ℕ) (p : Option (List ℕ)) → IfSome p (λ bs. w ≡ (old ++ t) ++ bs) → IfSome (option_append (Some t) p) (λ bs. w ≡ old ++ bs)
@@ -21,18 +21,18 @@ module _ (was next : List ℕ) where
   behind old None p q k h = h
   behind old (Some t) p q k h = joined old next t q (k t (parted old was t p h))
 
-  first_line : (old : List ℕ) (o : Option (List ℕ)) → was ≡ old ++ [] → IfSome o (λ bs. next ≡ was ++ (bs ++ (10 ∷ []))) → IfSome (option_append (option_map (λ bs. bs ++ (10 ∷ [])) o) (Some [])) (λ bs. next ≡ old ++ bs)
+  first_line : (old : List ℕ) (o : Option (List ℕ)) → was ≡ old ++ [] → IfSome o (λ bs. next ≡ was ++ ended_line bs) → IfSome (option_append (option_map ended_line o) (Some [])) (λ bs. next ≡ old ++ bs)
   first_line old None w n = n
-  first_line old (Some bs) w n = n ∙ ap (λ l. l ++ (bs ++ (10 ∷ []))) w ∙ simp append-nil
+  first_line old (Some bs) w n = n ∙ ap (λ l. l ++ ended_line bs) w ∙ simp append-nil
 
   module _ {X : Type 0} (output : X → Option (List ℕ)) where
     -- the line of x is put after those of xs
-    put_next : (old : List ℕ) (xs : List X) (x : X) → IfSome (printed_lines output xs) (λ bs. was ≡ old ++ bs) → IfSome (output x) (λ bs. next ≡ was ++ (bs ++ (10 ∷ []))) → IfSome (printed_lines output (xs ++ x ∷ [])) (λ bs. next ≡ old ++ bs)
+    put_next : (old : List ℕ) (xs : List X) (x : X) → IfSome (printed_lines output xs) (λ bs. was ≡ old ++ bs) → IfSome (output x) (λ bs. next ≡ was ++ ended_line bs) → IfSome (printed_lines output (xs ++ x ∷ [])) (λ bs. next ≡ old ++ bs)
     put_next old [] x w n = first_line old (output x) w n
     put_next old (y ∷ ys) x w n =
-        behind old (option_map (λ bs. bs ++ (10 ∷ [])) (output y)) (printed_lines output ys) (printed_lines output (ys ++ x ∷ [])) (λ t h. put_next (old ++ t) ys x h n) w
+        behind old (option_map ended_line (output y)) (printed_lines output ys) (printed_lines output (ys ++ x ∷ [])) (λ t h. put_next (old ++ t) ys x h n) w
 
-    pub one_more : (old : List ℕ) (xs : List X) (i : ℕ) (x : X) → x ≡ get_or xs i x → i < length xs → IfSome (printed_lines output (take i xs)) (λ bs. was ≡ old ++ bs) → IfSome (output x) (λ bs. next ≡ was ++ (bs ++ (10 ∷ []))) → IfSome (printed_lines output (take (i + 1) xs)) (λ bs. next ≡ old ++ bs)
+    pub one_more : (old : List ℕ) (xs : List X) (i : ℕ) (x : X) → x ≡ get_or xs i x → i < length xs → IfSome (printed_lines output (take i xs)) (λ bs. was ≡ old ++ bs) → IfSome (output x) (λ bs. next ≡ was ++ ended_line bs) → IfSome (printed_lines output (take (i + 1) xs)) (λ bs. next ≡ old ++ bs)
     one_more old xs i x is h w n =
         let more : take (i + 1) xs ≡ take i xs ++ x ∷ [] = take_more xs i x h ∙ ap (λ y. take i xs ++ y ∷ []) (sym is) in
         rw more (put_next old (take i xs) x w n)
@@ -40,19 +40,19 @@ module _ (was next : List ℕ) where
 -- where each is printed as its text, the lines are those of the texts
 printed_lines-some : {X : Type 0} (text : X → List ℕ) (xs : List X) → printed_lines (λ x. Some (text x)) xs ≡ Some (lines text xs)
 printed_lines-some text [] = refl
-printed_lines-some text (x ∷ xs) = ap (option_append (Some (text x ++ (10 ∷ [])))) (printed_lines-some text xs)
+printed_lines-some text (x ∷ xs) = ap (option_append (Some (ended_line (text x)))) (printed_lines-some text xs)
 
 lines-map : {X Y : Type 0} (text : X → List ℕ) (view : Y → X) (ys : List Y) → lines (λ y. text (view y)) ys ≡ lines text (map view ys)
 lines-map text view [] = refl
-lines-map text view (y ∷ ys) = ap (λ l. (text (view y) ++ (10 ∷ [])) ++ l) (lines-map text view ys)
+lines-map text view (y ∷ ys) = ap (λ l. ended_line (text (view y)) ++ l) (lines-map text view ys)
 
-printed_alarms : (xs : List Alarm) → printed_lines (λ a. Some (alarm_line (alarm_view a))) xs ≡ Some (alarm_lines (map alarm_view xs))
+printed_alarms : (xs : List Alarm) → printed_lines (λ a. Some (alarm_line (alarm_view a))) xs ≡ Some (lines alarm_line (map alarm_view xs))
 printed_alarms xs = printed_lines-some (λ a. alarm_line (alarm_view a)) xs ∙ ap Some (lines-map alarm_line alarm_view xs)
 
 -- what the lines of alarms, and those of unwatched days, put behind a text
 module _ (old new : List ℕ) where
-  pub alarms_put : (xs : List Alarm) → IfSome (printed_lines (λ a. Some (alarm_line (alarm_view a))) xs) (λ bs. new ≡ old ++ bs) → new ≡ old ++ alarm_lines (map alarm_view xs)
+  pub alarms_put : (xs : List Alarm) → IfSome (printed_lines (λ a. Some (alarm_line (alarm_view a))) xs) (λ bs. new ≡ old ++ bs) → new ≡ old ++ lines alarm_line (map alarm_view xs)
   alarms_put xs h = rw (printed_alarms xs) at h
 
-  pub unwatched_put : (xs : List Unwatched) → IfSome (printed_lines (λ u. Some (unwatched_line u)) xs) (λ bs. new ≡ old ++ bs) → new ≡ old ++ unwatched_lines xs
+  pub unwatched_put : (xs : List Unwatched) → IfSome (printed_lines (λ u. Some (unwatched_line u)) xs) (λ bs. new ≡ old ++ bs) → new ≡ old ++ lines unwatched_line xs
   unwatched_put xs h = rw (printed_lines-some unwatched_line xs) at h

@@ -1,4 +1,4 @@
--- An alarm read as numbers.
+-- An alarm read as numbers, its ledger in parts of a bet.
 use Rattle.std.specs.Prelude.{ℕ}
 use Rattle.daybook.specs.declared.entry.alarm.Alarm.{Alarm}
 

@@ -1,4 +1,4 @@
--- The bytes of each line of a listing, without its newline.
+-- The bytes of each line of a listing, without its newline, and of a list of lines.
 use Rattle.std.specs.Prelude.{ℕ, ◌*◌, ◌/◌, ◌%◌, List, [], ◌∷◌, ◌++◌, Option, Some, option_map, codes, decimal}
 use Rattle.std.specs.Fmt.{option_append}
 use Rattle.std.specs.List.{flat_map}
@@ -54,17 +54,15 @@ abbrev pub fault_line : ℕ → ℕ → ℕ → Layer → List ℕ
 fault_line number at byte layer =
     codes "fault " ++ (decimal number ++ (codes " record " ++ (decimal at ++ (codes " byte " ++ (decimal byte ++ (codes " layer " ++ layer_text layer))))))
 
--- the lines of values of a kind that prints each as output says, each ended by a newline, if it says so of all
+-- a line and its newline
+abbrev pub ended_line : List ℕ → List ℕ
+ended_line text = text ++ (10 ∷ [])
+
+-- the lines of values of a kind that prints each as output says, if it says so of all
 abbrev pub printed_lines : {X : Type 0} → (X → Option (List ℕ)) → List X → Option (List ℕ)
 printed_lines output [] = Some []
-printed_lines output (x ∷ xs) = option_append (option_map (λ bs. bs ++ (10 ∷ [])) (output x)) (printed_lines output xs)
+printed_lines output (x ∷ xs) = option_append (option_map ended_line (output x)) (printed_lines output xs)
 
--- a line for each entry, each ended by a newline
+-- the lines of the text of each
 abbrev pub lines : {X : Type 0} → (X → List ℕ) → List X → List ℕ
-lines text xs = flat_map (λ x. text x ++ (10 ∷ [])) xs
-
-abbrev pub alarm_lines : List AlarmView → List ℕ
-alarm_lines alarms = lines alarm_line alarms
-
-abbrev pub unwatched_lines : List Unwatched → List ℕ
-unwatched_lines days = lines unwatched_line days
+lines text xs = flat_map (λ x. ended_line (text x)) xs

@@ -5,6 +5,7 @@ pub mod alarm;
 pub mod unwatched;
 
 pub trait Dated {
+    // the entry's day
     ghost key: { Self → ℕ };
 
     fn day(&self) -> u32

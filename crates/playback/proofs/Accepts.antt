@@ -23,8 +23,9 @@ use Rattle.playback.specs.declared.stop.Fault.{Fault}
 use Rattle.playback.specs.declared.stop.ReplayFault.TheVariants.{Value, TooLong}
 use Rattle.playback.specs.Accepted.{WatchedRecords, AfterSetup, LogRecords, Accepted}
 use Rattle.playback.specs.Course.{Event, Settled, Passed, Rearmed, days_of, RisingDays, free_in, EventsOf, behind_all, spot_behind, Reached}
-use Rattle.playback.specs.Front.{Settings}
-use Rattle.playback.specs.Replayed.{Said, Unmade, Made, Replay, begun, finished, no_monitor, monitored, with_alternative, alternative_of, third, after_table, replayed, head_of}
+use Rattle.plantlog.specs.declared.record.Setup.{Setup as SetupValue}
+use Rattle.playback.specs.Front.{rule_named, bettor_named}
+use Rattle.playback.specs.Replayed.{Said, Unmade, Made, Replay, begun, finished, no_monitor, monitored, play_of, has_alternative, alternative_of, third, after_table, replayed, head_of}
 use Rattle.playback.specs.Replaying.{Spot, behind, watching}
 use Rattle.playback.specs.Stream.{Stream, Over, Broken, Next, opened, stream_by, stream_of}
 use Rattle.playback.specs.Rest.{Rest, whole, at_spot, taken_whole}
@@ -108,7 +109,7 @@ abbrev NoFault : Said → Type 0
 NoFault (Unmade f) = ⊥
 NoFault (Made classes total threshold rule told fault) = fault ≡ None
 
-module _ (p : Places) (ws : List ℕ) (x : Settings) where
+module _ (p : Places) (ws : List ℕ) (x : SetupValue) where
   made_by : (t : Terms) (play : Strategy) (rest : Stream) (at : Spot) (b : Bool) → NoFault (cond b (finished ws x t (watching t p rest at (begun play))) (no_monitor at (Value Threshold))).said → Left None 0 rest
   made_by t play rest at true none = ends t p rest at (begun play) none
   made_by t play rest at false none = absurd none
@@ -120,37 +121,37 @@ module _ (p : Places) (ws : List ℕ) (x : Settings) where
   Behind s = (fs : List Fields) × Says s fs × AfterSetup (length ws) x.bettor fs
 
   -- counts and rearms are no alternative
-  straight : (fs : List Fields) → x.bettor ≡ 2 → WatchedRecords None 0 fs → AfterSetup (length ws) x.bettor fs
-  straight [] two records = absurd records
-  straight (Table us ∷ fs) two records = absurd records
-  straight (Setup a r b ∷ fs) two records = absurd records
-  straight (Alternative us ∷ fs) two records = absurd records
-  straight (Count day n ∷ fs) two records = (two, records)
-  straight (Rearm ∷ fs) two records = (two, records)
-  straight (End n ∷ fs) two records = (two, records)
+  straight : (fs : List Fields) → has_alternative x.bettor ≡ false → WatchedRecords None 0 fs → AfterSetup (length ws) x.bettor fs
+  straight [] has records = absurd records
+  straight (Table us ∷ fs) has records = absurd records
+  straight (Setup a r b ∷ fs) has records = absurd records
+  straight (Alternative us ∷ fs) has records = absurd records
+  straight (Count day n ∷ fs) has records = (has, records)
+  straight (Rearm ∷ fs) has records = (has, records)
+  straight (End n ∷ fs) has records = (has, records)
 
-  by_classes : (alts : List ℕ) (n : ℕ) (rest : Stream) (at : Spot) → (x.bettor ≡ 2 → ⊥) → (b : Bool) → eqb (length alts) (length ws) ≡ b →
+  by_classes : (alts : List ℕ) (n : ℕ) (rest : Stream) (at : Spot) → (has_alternative x.bettor ≡ true) → (b : Bool) → eqb (length alts) (length ws) ≡ b →
       let s = Next (Alternative alts) n rest in
       NoFault (third p ws x s at (cond b (Ok alts) (Err (Value UnlikeClasses)))).said → Behind s
   by_classes alts n rest at other true same none =
-      let l = made (with_alternative x.bettor ws alts) rest (behind at n) none in
+      let l = made (play_of x.bettor ws alts) rest (behind at n) none in
       (Alternative alts ∷ l.records, (refl, l.says), (other, eqb-true (length alts) (length ws) same, l.ordered))
   by_classes alts n rest at other false same none = absurd none
 
-  by_alternative : (s : Stream) (at : Spot) → (x.bettor ≡ 2 → ⊥) → NoFault (third p ws x s at (alternative_of ws (head_of s))).said → Behind s
+  by_alternative : (s : Stream) (at : Spot) → (has_alternative x.bettor ≡ true) → NoFault (third p ws x s at (alternative_of ws (head_of s))).said → Behind s
   by_alternative (Next (Alternative alts) n rest) at other none = by_classes alts n rest at other (eqb (length alts) (length ws)) refl none
   by_alternative _ at other none = absurd none
 
-  by_bettor : (s : Stream) (at : Spot) (b : Bool) → eqb x.bettor 2 ≡ b →
-      NoFault (cond b (monitored p ws x (adaptive ws (no_tally (length ws))) s at) (third p ws x s at (alternative_of ws (head_of s)))).said → Behind s
-  by_bettor s at true two none =
-      let l = made (adaptive ws (no_tally (length ws))) s at none in
-      (l.records, l.says, straight l.records (eqb-true x.bettor 2 two) l.ordered)
-  by_bettor s at false two none = by_alternative s at (λ same. grind (arith, nat_tests)) none
+  by_bettor : (s : Stream) (at : Spot) (b : Bool) → has_alternative x.bettor ≡ b →
+      NoFault (cond b (third p ws x s at (alternative_of ws (head_of s))) (monitored p ws x (play_of x.bettor ws []) s at)).said → Behind s
+  by_bettor s at true has none = by_alternative s at has none
+  by_bettor s at false has none =
+      let l = made (play_of x.bettor ws []) s at none in
+      (l.records, l.says, straight l.records has l.ordered)
 
 by_setup : (p : Places) (ws : List ℕ) (s : Stream) (at : Spot) → NoFault (after_table p ws s at).said → (fs : List Fields) × Says s fs × LogRecords (Table ws ∷ fs)
 by_setup p ws (Next (Setup a r b) n rest) at none =
-    let l = by_bettor p ws (record { threshold = a; rule = r; bettor = b }) rest (behind at n) (eqb b 2) refl none in
+    let l = by_bettor p ws (record { threshold = a; rule = rule_named r; bettor = bettor_named b }) rest (behind at n) (has_alternative (bettor_named b)) refl none in
     (Setup a r b ∷ l.0, (refl, l.1), l.2)
 by_setup p ws _ at none = absurd none
 

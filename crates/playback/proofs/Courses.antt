@@ -14,7 +14,7 @@ use Rattle.edetector.specs.Ledger.{Terms, Standing, outcome, staked, settled, ri
 use Rattle.edetector.specs.View.{standing}
 use Rattle.plantlog.specs.Format.{Fields, Table, Setup, Alternative, Count, Rearm, End}
 use Rattle.daybook.specs.declared.entry.unwatched.Unwatched.{Unwatched}
-use Rattle.daybook.specs.Books.{above}
+use Rattle.daybook.specs.Books.{all_used, above}
 use Rattle.daybook.specs.Entries.{AlarmView}
 use Rattle.playback.specs.declared.stop.ReplayFault.{ReplayFault}
 use Rattle.playback.specs.declared.stop.ReplayFault.TheVariants.{Record, Monitor, Book, NotAllowed, DayNotAbove, CountsDiffer, Trailing}
@@ -22,7 +22,7 @@ use Rattle.playback.specs.declared.stop.Fault.{Fault}
 use Rattle.plantlog.specs.declared.fault.RecordFault.TheVariants.{NoneLeft}
 use Rattle.daybook.specs.declared.fault.BookFault.TheVariants.{Full}
 use Rattle.playback.specs.Stream.{Stream, Over, Broken, Next}
-use Rattle.playback.specs.Watch.{Watch, Places, Done, faulted, counted, alarm_if, Round, shown, watched, round_done, full, passed, by_state, restood, count_read, rearm_read}
+use Rattle.playback.specs.Watch.{Watch, Places, Done, faulted, counted, alarm_if, Round, shown, watched, round_done, passed, by_state, restood, count_read, rearm_read}
 use Rattle.playback.specs.Replaying.{Spot, behind, Finish, went, stopped, fault_at, at_end, watching}
 use Rattle.playback.specs.Course.{Event, Settled, Passed, Rearmed, after_event, after_all, alarm_of, alarms_of, unwatched_of, passed_in, day_of, days_of, RisingDays, last_day, free_in, free_after, Rightly, AllRightly, EventOf, NoCount, NotTaken, Reached, WholeCourse, HasWholeCourse}
 use Rattle.playback.proofs.Counting.{settled_fits}
@@ -121,7 +121,7 @@ module _ (t : Terms) (p : Places) (n : ℕ) (rest : Stream) (ih : (at : Spot) (w
     abbrev entered : Watch
     entered = counted armed day after (alarm_if rang day after ents) us
 
-    settles : ltb r 1000000 ≡ true → full p.alarms (length ents) ≡ false → Leads t p (Count day count) at armed entered (Settled day count)
+    settles : ltb r 1000000 ≡ true → all_used p.alarms ents ≡ false → Leads t p (Count day count) at armed entered (Settled day count)
     settles left room =
         let next_is = armed_next t m r al row play day count left in
         record {
@@ -135,7 +135,7 @@ module _ (t : Terms) (p : Places) (n : ℕ) (rest : Stream) (ih : (at : Spot) (w
           rising = (later, tt);
         }
 
-    by_rounds : full p.alarms (length ents) ≡ false → (b : Bool) → ltb r 1000000 ≡ b →
+    by_rounds : all_used p.alarms ents ≡ false → (b : Bool) → ltb r 1000000 ≡ b →
         let o = cond b (outcome {X = Result OpenSlip MonitorFault} (Ok (record { tag = t.tag; number = r + 1 })) (staked armed.standing)) (outcome (Err Spent) armed.standing) in
         let x = shown t ents day count o.answer o.after in
         On armed (round_done armed day x.answer x.standing x.alarms)
@@ -145,15 +145,15 @@ module _ (t : Terms) (p : Places) (n : ℕ) (rest : Stream) (ih : (at : Spot) (w
         (begins t p (Count day count) n rest at armed entered _ (Settled day count) (settles left room) (ih (behind at n) entered))
     by_rounds room false left = stays armed (Monitor Spent) (later, has_free p.alarms (length ents) room, refl, spent r left)
 
-    armed_course : (b : Bool) → full p.alarms (length ents) ≡ b → On armed (cond b (faulted armed (Book Full)) (round_done armed day (watched t armed.standing ents day count).answer (watched t armed.standing ents day count).standing (watched t armed.standing ents day count).alarms))
+    armed_course : (b : Bool) → all_used p.alarms ents ≡ b → On armed (cond b (faulted armed (Book Full)) (round_done armed day (watched t armed.standing ents day count).answer (watched t armed.standing ents day count).standing (watched t armed.standing ents day count).alarms))
     armed_course true room = stays armed (Book Full) (later, none_free p.alarms (length ents) room)
     armed_course false room = by_rounds room (ltb r 1000000) refl
 
-  staked_course : (w : Watch) → w.standing.state ≡ Staked → above w.last day ≡ true → (b : Bool) → full p.alarms (length w.alarms) ≡ b → On w (cond b (faulted w (Book Full)) (faulted w (Monitor NotArmed)))
+  staked_course : (w : Watch) → w.standing.state ≡ Staked → above w.last day ≡ true → (b : Bool) → all_used p.alarms w.alarms ≡ b → On w (cond b (faulted w (Book Full)) (faulted w (Monitor NotArmed)))
   staked_course w e later true room = stays w (Book Full) (later, rw e (none_free p.alarms (length w.alarms) room))
   staked_course w e later false room = stays w (Monitor NotArmed) (later, has_free p.alarms (length w.alarms) room, e)
 
-  rung_course : (w : Watch) → w.standing.state ≡ Rung → above w.last day ≡ true → (b : Bool) → full p.unwatched (length w.unwatched) ≡ b → On w (cond b (faulted w (Book Full)) (passed w at.number day))
+  rung_course : (w : Watch) → w.standing.state ≡ Rung → above w.last day ≡ true → (b : Bool) → all_used p.unwatched w.unwatched ≡ b → On w (cond b (faulted w (Book Full)) (passed w at.number day))
   rung_course w e later true room = stays w (Book Full) (later, rw e (none_free p.unwatched (length w.unwatched) room))
   rung_course w e later false room =
       let w1 = counted w day w.standing w.alarms (w.unwatched ++ (record { day = day; «record» = at.number } ∷ [])) in
@@ -162,9 +162,9 @@ module _ (t : Terms) (p : Places) (n : ℕ) (rest : Stream) (ih : (at : Spot) (w
 
   in_state : (st : State) (m r al : ℕ) (row : List ℕ) (play : Strategy) (last : Option ℕ) (counts : ℕ) (ents : List AlarmView) (us : List Unwatched) → above last day ≡ true →
       On (watch (standing st m r al row play) last counts ents us) (by_state st t p (watch (standing st m r al row play) last counts ents us) at.number day count)
-  in_state Armed m r al row play last counts ents us later = armed_course m r al row play last counts ents us later (full p.alarms (length ents)) refl
-  in_state Staked m r al row play last counts ents us later = staked_course (watch (standing Staked m r al row play) last counts ents us) refl later (full p.alarms (length ents)) refl
-  in_state Rung m r al row play last counts ents us later = rung_course (watch (standing Rung m r al row play) last counts ents us) refl later (full p.unwatched (length us)) refl
+  in_state Armed m r al row play last counts ents us later = armed_course m r al row play last counts ents us later (all_used p.alarms ents) refl
+  in_state Staked m r al row play last counts ents us later = staked_course (watch (standing Staked m r al row play) last counts ents us) refl later (all_used p.alarms ents) refl
+  in_state Rung m r al row play last counts ents us later = rung_course (watch (standing Rung m r al row play) last counts ents us) refl later (all_used p.unwatched us) refl
 
   by_day : (w : Watch) (b : Bool) → above w.last day ≡ b → On w (cond b (by_state w.standing.state t p w at.number day count) (faulted w DayNotAbove))
   by_day w true later = in_state w.standing.state w.standing.ledger w.standing.rounds w.standing.alarms w.standing.row w.standing.play w.last w.counts w.alarms w.unwatched later

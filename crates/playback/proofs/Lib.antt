@@ -2,8 +2,8 @@ pub mod Accepts
 pub mod Appends
 pub mod Counting
 pub mod Courses
-pub mod Emptied
 pub mod Fronts
+pub mod Growing
 pub mod Listed
 pub mod OneReading
 pub mod Only

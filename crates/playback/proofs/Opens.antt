@@ -1,5 +1,5 @@
 -- The header on plain data.
-use Rattle.std.proofs.Common.{◌≡◌, ℕ, false, eqb, List, [], length, Ok, Err, Result, sym, refl, ap, ◌∙◌, ap₂}
+use Rattle.std.proofs.Common.{◌≡◌, ℕ, true, List, [], length, Ok, Err, Result, sym, refl, ap, ◌∙◌, ap₂}
 use Rattle.edetector.specs.declared.fixed.Fixed.{Fixed as FixedBettor}
 use Rattle.edetector.specs.declared.adaptive.Adaptive.{Adaptive as AdaptiveBettor}
 use Rattle.edetector.specs.declared.mixture.Mixture.{Mixture as MixtureBettor}
@@ -7,19 +7,21 @@ use Rattle.edetector.specs.declared.table.Table.{Table}
 use Rattle.edetector.specs.Tallies.{tally_of}
 use Rattle.edetector.specs.Weights.{null_weights, alternative_weights}
 use Rattle.edetector.specs.Bettors.{Strategy, fixed, adaptive, mixture, no_tally}
+use Rattle.plantlog.specs.declared.record.BettorChoice.TheVariants.{Adaptive}
+use Rattle.plantlog.specs.declared.record.Setup.{Setup}
 use Rattle.plantlog.specs.Results.{and_then}
 use Rattle.plantlog.specs.Format.{Fields}
 use Rattle.playback.specs.declared.books.Books.{Books}
 use Rattle.playback.specs.declared.report.Run.{Run}
 use Rattle.playback.specs.declared.stop.Fault.{Fault}
 use Rattle.playback.specs.declared.stop.ReplayFault.{ReplayFault}
-use Rattle.playback.specs.Front.{Settings, next_fields, only_table, only_setup, only_alternative}
+use Rattle.playback.specs.Front.{next_fields, only_table, only_setup, only_alternative}
 use Rattle.playback.specs.Held.{NothingYet}
 use Rattle.playback.specs.Stream.{Stream, stream_of}
 use Rattle.playback.specs.Watch.{Places}
 use Rattle.playback.specs.Replaying.{Spot, behind}
 use Rattle.playback.specs.Rest.{Rest, at_spot, behind_record}
-use Rattle.playback.specs.Replayed.{Replay, Unmade, rest_of, taken_of, monitored, with_alternative, as_many, alternative_of, alternative_for, third, after_setup, second, after_table, first, replayed}
+use Rattle.playback.specs.Replayed.{Replay, Unmade, rest_of, taken_of, monitored, play_of, has_alternative, as_many, alternative_of, alternative_for, third, after_setup, second, after_table, first, replayed}
 use Rattle.playback.specs.Told.{replay_told}
 use Rattle.playback.proofs.Steps.{streams, head_is}
 
@@ -52,7 +54,7 @@ module _ (p : Places) (rest : Rest) where
   is_second : (ws : List ℕ) → second p ws (stream_of rest.left) rest.at (and_then (next_fields rest.left) only_setup) ≡ after_table p ws (stream_of rest.left) rest.at
   is_second ws = ap (λ r. second p ws (stream_of rest.left) rest.at (and_then r only_setup)) (sym (head_is rest.left))
 
-  is_third : (ws : List ℕ) (x : Settings) → eqb x.bettor 2 ≡ false → third p ws x (stream_of rest.left) rest.at (alternative_for ws rest.left) ≡ after_setup p ws x (stream_of rest.left) rest.at
+  is_third : (ws : List ℕ) (x : Setup) → has_alternative x.bettor ≡ true → third p ws x (stream_of rest.left) rest.at (alternative_for ws rest.left) ≡ after_setup p ws x (stream_of rest.left) rest.at
   is_third ws x other = ap (λ r. third p ws x (stream_of rest.left) rest.at (alternative_of ws r)) (sym (head_is rest.left)) ∙ rw other refl
 
   pub first_refused : (f : Fault) → Err f ≡ at_spot rest.at (and_then (next_fields rest.left) only_table) → unmade f ≡ replayed p (stream_of rest.left) rest.at
@@ -61,11 +63,11 @@ module _ (p : Places) (rest : Rest) where
   pub second_refused : (ws : List ℕ) (f : Fault) → Err f ≡ at_spot rest.at (and_then (next_fields rest.left) only_setup) → unmade f ≡ after_table p ws (stream_of rest.left) rest.at
   second_refused ws f e = at_spot_err rest.at (second p ws (stream_of rest.left) rest.at) (λ c. refl) _ f e ∙ is_second ws
 
-  pub third_refused : (ws : List ℕ) (x : Settings) (f : Fault) → eqb x.bettor 2 ≡ false → Err f ≡ at_spot rest.at (alternative_for ws rest.left) → unmade f ≡ after_setup p ws x (stream_of rest.left) rest.at
+  pub third_refused : (ws : List ℕ) (x : Setup) (f : Fault) → has_alternative x.bettor ≡ true → Err f ≡ at_spot rest.at (alternative_for ws rest.left) → unmade f ≡ after_setup p ws x (stream_of rest.left) rest.at
   third_refused ws x f other e = at_spot_err rest.at (third p ws x (stream_of rest.left) rest.at) (λ c. refl) _ f e ∙ is_third ws x other
 
-  -- bettor 2 needs no alternative
-  pub goes_adaptive : (ws : List ℕ) (x : Settings) (play : Strategy) → x.bettor ≡ 2 → play ≡ adaptive ws (no_tally (length ws)) → monitored p ws x play (stream_of rest.left) rest.at ≡ after_setup p ws x (stream_of rest.left) rest.at
+  -- the adaptive bettor needs no alternative
+  pub goes_adaptive : (ws : List ℕ) (x : Setup) (play : Strategy) → x.bettor ≡ Adaptive → play ≡ adaptive ws (no_tally (length ws)) → monitored p ws x play (stream_of rest.left) rest.at ≡ after_setup p ws x (stream_of rest.left) rest.at
   goes_adaptive ws x play is plays = rw (is, plays) refl
 
   module _ (rest' : Rest) (past : rest' ≡ behind_record rest) where
@@ -80,24 +82,24 @@ module _ (p : Places) (rest : Rest) where
         let f = accepted_by (next_fields rest.left) only_table ws read in
         goes_on (after_table p ws) f.0 f.1 ∙ ap (first p (stream_of rest.left) rest.at) read ∙ is_first
 
-    pub second_taken : (ws : List ℕ) (x : Settings) → Ok x ≡ at_spot rest.at (and_then (next_fields rest.left) only_setup) → after_setup p ws x (stream_of rest'.left) rest'.at ≡ after_table p ws (stream_of rest.left) rest.at
+    pub second_taken : (ws : List ℕ) (x : Setup) → Ok x ≡ at_spot rest.at (and_then (next_fields rest.left) only_setup) → after_setup p ws x (stream_of rest'.left) rest'.at ≡ after_table p ws (stream_of rest.left) rest.at
     second_taken ws x e =
         let read = at_spot_ok rest.at _ x e in
         let f = accepted_by (next_fields rest.left) only_setup x read in
         goes_on (after_setup p ws x) f.0 f.1 ∙ ap (second p ws (stream_of rest.left) rest.at) read ∙ is_second ws
 
     -- an alternative with as many classes
-    pub third_taken : (ws : List ℕ) (x : Settings) (alts : List ℕ) (play : Strategy) → eqb x.bettor 2 ≡ false → Ok alts ≡ at_spot rest.at (alternative_for ws rest.left) → play ≡ with_alternative x.bettor ws alts →
+    pub third_taken : (ws : List ℕ) (x : Setup) (alts : List ℕ) (play : Strategy) → has_alternative x.bettor ≡ true → Ok alts ≡ at_spot rest.at (alternative_for ws rest.left) → play ≡ play_of x.bettor ws alts →
         monitored p ws x play (stream_of rest'.left) rest'.at ≡ after_setup p ws x (stream_of rest.left) rest.at
     third_taken ws x alts play other e plays =
         let read = at_spot_ok rest.at _ alts e in
         let said = accepted_by (and_then (next_fields rest.left) only_alternative) (as_many ws) alts read in
         let f = accepted_by (next_fields rest.left) only_alternative said.0 (sym said.1) in
-        ap (λ q. monitored p ws x q (stream_of rest'.left) rest'.at) plays ∙ goes_on (monitored p ws x (with_alternative x.bettor ws alts)) f.0 f.1
+        ap (λ q. monitored p ws x q (stream_of rest'.left) rest'.at) plays ∙ goes_on (monitored p ws x (play_of x.bettor ws alts)) f.0 f.1
         ∙ ap (third p ws x (stream_of rest.left) rest.at) read ∙ is_third ws x other
 
 -- behind a table and a setup
-pub header_taken : (p : Places) (rest rest1 rest2 : Rest) → rest1 ≡ behind_record rest → rest2 ≡ behind_record rest1 → (ws : List ℕ) (x : Settings) →
+pub header_taken : (p : Places) (rest rest1 rest2 : Rest) → rest1 ≡ behind_record rest → rest2 ≡ behind_record rest1 → (ws : List ℕ) (x : Setup) →
     Ok ws ≡ at_spot rest.at (and_then (next_fields rest.left) only_table) → Ok x ≡ at_spot rest1.at (and_then (next_fields rest1.left) only_setup) →
     after_setup p ws x (stream_of rest2.left) rest2.at ≡ replayed p (stream_of rest.left) rest.at
 header_taken p rest rest1 rest2 past past1 ws x e e1 = second_taken p rest1 rest2 past1 ws x e1 ∙ first_taken p rest rest1 past ws e

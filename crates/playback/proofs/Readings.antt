@@ -14,11 +14,11 @@ use Rattle.edetector.specs.Ledger.{Terms, outcome, staked, settled, rings, rearm
 use Rattle.edetector.specs.View.{standing}
 use Rattle.daybook.specs.declared.fault.BookFault.TheVariants.{Full}
 use Rattle.daybook.specs.declared.entry.unwatched.Unwatched.{Unwatched}
-use Rattle.daybook.specs.Books.{above}
+use Rattle.daybook.specs.Books.{all_used, above}
 use Rattle.daybook.specs.Entries.{AlarmView}
 use Rattle.playback.specs.declared.stop.ReplayFault.{ReplayFault}
 use Rattle.playback.specs.declared.stop.ReplayFault.TheVariants.{Monitor, Book, DayNotAbove}
-use Rattle.playback.specs.Watch.{Watch, Places, taken, faulted, counted, alarm_if, shown, round_done, watched_count, full, passed, by_state, count_read, restood, rearm_read}
+use Rattle.playback.specs.Watch.{Watch, Places, taken, faulted, counted, alarm_if, shown, round_done, watched_count, passed, by_state, count_read, restood, rearm_read}
 use Rattle.playback.specs.Course.{Event, Settled, Passed, Rearmed, after_event, alarm_of, passed_in, day_of, last_day, free_in, NoPlace, NoCount}
 use Rattle.playback.proofs.Counting.{settled_fits}
 use Rattle.playback.proofs.Rounds.{has_place, no_place, alarm_behind, armed_next}
@@ -37,7 +37,7 @@ led t w e = record {
 module _ (t : Terms) (p : Places) (number day count : ℕ) where
   armed_read : (m r al : ℕ) (row : List ℕ) (play : Strategy) (last : Option ℕ) (counts : ℕ) (ents : List AlarmView) (us : List Unwatched) →
       let w : Watch = record { standing = standing Armed m r al row play; last = last; counts = counts; alarms = ents; unwatched = us } in
-      above last day ≡ true → full p.alarms (length ents) ≡ false → ltb r 1000000 ≡ true → count_read t p w number day count ≡ taken (led t w (Settled day count))
+      above last day ≡ true → all_used p.alarms ents ≡ false → ltb r 1000000 ≡ true → count_read t p w number day count ≡ taken (led t w (Settled day count))
   armed_read m r al row play last counts ents us rises room left =
       let w : Watch = record { standing = standing Armed m r al row play; last = last; counts = counts; alarms = ents; unwatched = us } in
       let after = settled t (standing Staked m r al (play []) play) (class_of (length t.nulls) count) in
@@ -55,7 +55,7 @@ module _ (t : Terms) (p : Places) (number day count : ℕ) where
 
   pub settled_read : (st : State) (m r al : ℕ) (row : List ℕ) (play : Strategy) (last : Option ℕ) (counts : ℕ) (ents : List AlarmView) (us : List Unwatched) →
       let w : Watch = record { standing = standing st m r al row play; last = last; counts = counts; alarms = ents; unwatched = us } in
-      st ≡ Armed → above last day ≡ true → full p.alarms (length ents) ≡ false → ltb r 1000000 ≡ true → count_read t p w number day count ≡ taken (led t w (Settled day count))
+      st ≡ Armed → above last day ≡ true → all_used p.alarms ents ≡ false → ltb r 1000000 ≡ true → count_read t p w number day count ≡ taken (led t w (Settled day count))
   settled_read Armed m r al row play last counts ents us is rises room left = armed_read m r al row play last counts ents us rises room left
   settled_read Staked m r al row play last counts ents us is rises room left = cc
   settled_read Rung m r al row play last counts ents us is rises room left = cc
@@ -63,7 +63,7 @@ module _ (t : Terms) (p : Places) (number day count : ℕ) where
   by_state_is : (w : Watch) (st : State) → w.standing.state ≡ st → above w.last day ≡ true → count_read t p w number day count ≡ by_state st t p w number day count
   by_state_is w st is rises = ap (λ b. cond b (by_state w.standing.state t p w number day count) (faulted w DayNotAbove)) rises ∙ ap (λ x. by_state x t p w number day count) is
 
-  pub passed_read : (w : Watch) → w.standing.state ≡ Rung → above w.last day ≡ true → full p.unwatched (length w.unwatched) ≡ false → count_read t p w number day count ≡ taken (led t w (Passed day number))
+  pub passed_read : (w : Watch) → w.standing.state ≡ Rung → above w.last day ≡ true → all_used p.unwatched w.unwatched ≡ false → count_read t p w number day count ≡ taken (led t w (Passed day number))
   passed_read w is rises room =
       by_state_is w Rung is rises ∙ ap (λ b. cond b (faulted w (Book Full)) (passed w number day)) room
       ∙ ap (λ a. taken (counted w day w.standing a (w.unwatched ++ (record { day = day; «record» = number } ∷ [])))) (sym (append-nil w.alarms))

@@ -1,5 +1,5 @@
 -- Days go on rising.
-use Rattle.std.proofs.Common.{◌≡◌, ℕ, Bool, true, false, cond, ltb, ◌⊎◌, List, [], ◌∷◌, ◌++◌, length, Some, None, Ok, Err, Option, Result, sym, refl, ap, ◌∙◌, subst, inl, inr, arith}
+use Rattle.std.proofs.Common.{◌≡◌, ℕ, Bool, true, false, cond, ltb, ◌⊎◌, List, [], ◌∷◌, ◌++◌, Some, None, Ok, Err, Option, Result, sym, refl, ap, ◌∙◌, subst, inl, inr, arith}
 use Rattle.std.proofs.lemmas.Bool.Decides.{nat_tests}
 use Rattle.edetector.specs.declared.state.State.{State}
 use Rattle.edetector.specs.declared.state.State.TheVariants.{Armed, Staked, Rung}
@@ -12,10 +12,10 @@ use Rattle.playback.specs.declared.stop.ReplayFault.{ReplayFault}
 use Rattle.playback.specs.declared.stop.ReplayFault.TheVariants.{Book, DayNotAbove}
 use Rattle.daybook.specs.declared.fault.BookFault.TheVariants.{Full}
 use Rattle.daybook.specs.declared.entry.unwatched.Unwatched.{Unwatched}
-use Rattle.daybook.specs.Books.{above}
+use Rattle.daybook.specs.Books.{all_used, above, above_in}
 use Rattle.daybook.specs.Entries.{AlarmView}
-use Rattle.playback.specs.Rising.{above_in, Later, Rising}
-use Rattle.playback.specs.Watch.{Watch, Places, Done, done, faulted, counted, rung, shown, watched, round_done, full, by_state, count_read}
+use Rattle.playback.specs.Rising.{Later, Rising}
+use Rattle.playback.specs.Watch.{Watch, Places, Done, done, faulted, counted, rung, shown, watched, round_done, by_state, count_read}
 
 above_push : {X : Type 0} (key : X → ℕ) (xs : List X) (v : X) (d : ℕ) → above_in key (xs ++ (v ∷ [])) d ≡ ltb (key v) d
 above_push key [] v d = refl
@@ -76,12 +76,12 @@ by_places w w' false x e = e
 in_state : (st : State) (t : Terms) (p : Places) (w w' : Watch) (number day count : ℕ) → done (Ok tt) w' ≡ by_state st t p w number day count → Taken w day w'
 in_state Armed t p w w' number day count e =
     let r = watched t w.standing w.alarms day count in
-    by_answer w w' day r.answer r.standing r.alarms (watched_grown t w.standing w.alarms day count) (by_places w w' (full p.alarms (length w.alarms)) _ e)
+    by_answer w w' day r.answer r.standing r.alarms (watched_grown t w.standing w.alarms day count) (by_places w w' (all_used p.alarms w.alarms) _ e)
 in_state Staked t p w w' number day count e =
     let r = watched t w.standing w.alarms day count in
-    by_answer w w' day r.answer r.standing r.alarms (watched_grown t w.standing w.alarms day count) (by_places w w' (full p.alarms (length w.alarms)) _ e)
+    by_answer w w' day r.answer r.standing r.alarms (watched_grown t w.standing w.alarms day count) (by_places w w' (all_used p.alarms w.alarms) _ e)
 in_state Rung t p w w' number day count e =
-    (w.standing, w.alarms, _, ap (λ d. d.after) (by_places w w' (full p.unwatched (length w.unwatched)) _ e), inl refl, inr (record { day = day; «record» = number }, refl, refl))
+    (w.standing, w.alarms, _, ap (λ d. d.after) (by_places w w' (all_used p.unwatched w.unwatched) _ e), inl refl, inr (record { day = day; «record» = number }, refl, refl))
 
 by_day : (w w' : Watch) (b : Bool) (x : Done) → done (Ok tt) w' ≡ cond b x (faulted w DayNotAbove) → (b ≡ true) × (done (Ok tt) w' ≡ x)
 by_day w w' true x e = (refl, e)

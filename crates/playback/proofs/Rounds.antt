@@ -15,15 +15,15 @@ use Rattle.edetector.specs.Bettors.{Strategy}
 use Rattle.edetector.specs.Ledger.{Terms, Standing, outcome, staked, settled, rings}
 use Rattle.edetector.specs.View.{standing}
 use Rattle.daybook.specs.Entries.{AlarmView}
-use Rattle.playback.specs.Watch.{alarm_if, full}
+use Rattle.playback.specs.Watch.{alarm_if}
 use Rattle.playback.specs.Course.{Settled, after_event}
 
--- a book that is not full has a free place
-pub has_free : (places used : ℕ) → full places used ≡ false → 0 < places - used
-has_free places used e = let less : leb places used ≡ false = e in grind (arith, nat_tests)
+-- a book whose places are not all used has a free place
+pub has_free : (places used : ℕ) → leb places used ≡ false → 0 < places - used
+has_free places used e = grind (arith, nat_tests)
 
-pub none_free : (places used : ℕ) → full places used ≡ true → places - used ≡ 0
-none_free places used e = let all : leb places used ≡ true = e in grind (arith, nat_tests)
+pub none_free : (places used : ℕ) → leb places used ≡ true → places - used ≡ 0
+none_free places used e = grind (arith, nat_tests)
 
 pub spent : (rounds : ℕ) → ltb rounds 1000000 ≡ false → 1000000 ≤ rounds
 spent rounds e = grind (arith, nat_tests)
@@ -34,11 +34,11 @@ some_left rounds e = grind (arith, nat_tests)
 pub other_count : (counts n : ℕ) → eqb counts n ≡ false → counts ≡ n → ⊥
 other_count counts n e same = grind (arith, nat_tests)
 
-pub has_place : (places used : ℕ) → 0 < places - used → full places used ≡ false
-has_place places used e = let less : leb places used ≡ false = grind (arith, nat_tests) in less
+pub has_place : (places used : ℕ) → 0 < places - used → leb places used ≡ false
+has_place places used e = grind (arith, nat_tests)
 
-pub no_place : (places used : ℕ) → places - used ≡ 0 → full places used ≡ true
-no_place places used e = let all : leb places used ≡ true = grind (arith, nat_tests) in all
+pub no_place : (places used : ℕ) → places - used ≡ 0 → leb places used ≡ true
+no_place places used e = grind (arith, nat_tests)
 
 pub unlike : (counts n : ℕ) → (counts ≡ n → ⊥) → (b : Bool) → eqb counts n ≡ b → eqb counts n ≡ false
 unlike counts n differ true e = absurd (differ (eqb-true counts n e))

@@ -1,8 +1,11 @@
 -- What a log says that is replayed without a fault.
-use Rattle.std.specs.Prelude.{◌≡◌, ℕ, ◌+◌, true, List, [], ◌∷◌, length, Some, None, Option}
+use Rattle.std.specs.Prelude.{◌≡◌, ℕ, ◌+◌, true, false, List, [], ◌∷◌, length, Some, None, Option}
+use Rattle.plantlog.specs.declared.record.BettorChoice.{BettorChoice}
 use Rattle.plantlog.specs.Format.{Fields, Table, Setup, Alternative, Count, Rearm, End}
 use Rattle.plantlog.specs.Laws.{AllWritable, log_bytes}
 use Rattle.daybook.specs.Books.{above}
+use Rattle.playback.specs.Front.{bettor_named}
+use Rattle.playback.specs.Replayed.{has_alternative}
 
 -- behind so many counts, the last of a day: counts whose days rise, and rearms, in any number, then one end, which names
 -- how many counts there were
@@ -12,14 +15,14 @@ WatchedRecords last counts (Rearm ∷ fs) = WatchedRecords last counts fs
 WatchedRecords last counts (End n ∷ []) = n ≡ counts
 WatchedRecords last counts _ = ⊥
 
--- bettor 2 has no alternative; for the others one comes first, with as many classes as the null table
-abbrev pub AfterSetup : ℕ → ℕ → List Fields → Type 0
-AfterSetup classes bettor (Alternative ws ∷ fs) = (bettor ≡ 2 → ⊥) × (length ws ≡ classes) × WatchedRecords None 0 fs
-AfterSetup classes bettor fs = (bettor ≡ 2) × WatchedRecords None 0 fs
+-- an alternative comes first exactly if the bettor has one, with as many classes as the null table
+abbrev pub AfterSetup : ℕ → BettorChoice → List Fields → Type 0
+AfterSetup classes bettor (Alternative ws ∷ fs) = (has_alternative bettor ≡ true) × (length ws ≡ classes) × WatchedRecords None 0 fs
+AfterSetup classes bettor fs = (has_alternative bettor ≡ false) × WatchedRecords None 0 fs
 
 -- a table and a setup first
 abbrev pub LogRecords : List Fields → Type 0
-LogRecords (Table ws ∷ Setup threshold rule bettor ∷ fs) = AfterSetup (length ws) bettor fs
+LogRecords (Table ws ∷ Setup threshold rule bettor ∷ fs) = AfterSetup (length ws) (bettor_named bettor) fs
 LogRecords _ = ⊥
 
 -- the log is the writing of such records, and of no others

@@ -1,8 +1,11 @@
 -- The next record, as a replay sees it.
-use Rattle.std.specs.Prelude.{ℕ, List, Ok, Err, Result}
+use Rattle.std.specs.Prelude.{ℕ, cond, List, Ok, Err, Result, ◌==◌}
 use Rattle.plantlog.specs.declared.fault.RecordFault.{RecordFault}
 use Rattle.plantlog.specs.declared.record.Setup.{Setup as SetupValue}
-use Rattle.plantlog.specs.Choices.{rule_number, bettor_number}
+use Rattle.plantlog.specs.declared.record.RuleChoice.{RuleChoice}
+use Rattle.plantlog.specs.declared.record.RuleChoice.TheVariants.{ShiryaevRoberts, Page}
+use Rattle.plantlog.specs.declared.record.BettorChoice.{BettorChoice}
+use Rattle.plantlog.specs.declared.record.BettorChoice.TheVariants.{Fixed, Adaptive, Mixture}
 use Rattle.plantlog.specs.Results.{of_ok}
 use Rattle.plantlog.specs.Format.{Fields, Table, Setup, Alternative, Count, End}
 use Rattle.plantlog.specs.FirstRecord.{first_record}
@@ -22,22 +25,20 @@ abbrev pub only_table : Fields → Result (List ℕ) ReplayFault
 only_table (Table ws) = Ok ws
 only_table _ = Err NotAllowed
 
--- what a setup says
-pub record Settings : Type 0 where
-  pub threshold : ℕ
-  pub rule : ℕ
-  pub bettor : ℕ
+-- the rule of its number in a setup, 1 or 2, and the bettor of its number, 1 to 3
+abbrev pub rule_named : ℕ → RuleChoice
+rule_named r = cond (r == 1) ShiryaevRoberts Page
 
-abbrev pub only_setup : Fields → Result Settings ReplayFault
-only_setup (Setup a r b) = Ok (record { threshold = a; rule = r; bettor = b })
+abbrev pub bettor_named : ℕ → BettorChoice
+bettor_named b = cond (b == 1) Fixed (cond (b == 2) Adaptive Mixture)
+
+abbrev pub only_setup : Fields → Result SetupValue ReplayFault
+only_setup (Setup a r b) = Ok (record { threshold = a; rule = rule_named r; bettor = bettor_named b })
 only_setup _ = Err NotAllowed
 
 abbrev pub only_alternative : Fields → Result (List ℕ) ReplayFault
 only_alternative (Alternative ws) = Ok ws
 only_alternative _ = Err NotAllowed
-
-abbrev pub settings_of : SetupValue → Settings
-settings_of s = record { threshold = s.threshold; rule = rule_number s.rule; bettor = bettor_number s.bettor }
 
 -- the number that a count in front says
 abbrev pub count_said : Fields → ℕ

@@ -1,5 +1,5 @@
 -- What the books hold, as plain data.
-use Rattle.std.specs.Prelude.{◌≡◌, List, [], map, None}
+use Rattle.std.specs.Prelude.{◌≡◌, ◌≤◌, List, [], map, length, None}
 use Rattle.daybook.specs.declared.book.Book.{Book}
 use Rattle.daybook.specs.declared.entry.alarm.Alarm.{Alarm}
 use Rattle.daybook.specs.declared.entry.unwatched.Unwatched.{Unwatched}
@@ -31,10 +31,14 @@ pub record NothingYet (rest : Rest) (books : Books) : Type 0 where
   pub alarms : entries_of books.alarms.now ≡ []
   pub unwatched : entries_of books.unwatched.now ≡ []
 
--- the same two books are lent; entries may have been added to both, and the places behind them hold what they held
+-- a book as it was, but for entries that may have been added
+pub record Grows {X : Type 0} (before after : Book X) : Type 0 where
+  pub kept : Keeps before after
+  pub more : length (entries_of before) ≤ length (entries_of after)
+
+-- the same two books are lent, and entries may have been added to both
 pub record KeepsBooks (before after : Books) : Type 0 where
   pub alarms_lender : after.alarms.ghost_name ≡ before.alarms.ghost_name
   pub unwatched_lender : after.unwatched.ghost_name ≡ before.unwatched.ghost_name
-  pub places : places_lent after ≡ places_lent before
-  pub alarms : Keeps before.alarms.now after.alarms.now
-  pub unwatched : Keeps before.unwatched.now after.unwatched.now
+  pub alarms : Grows before.alarms.now after.alarms.now
+  pub unwatched : Grows before.unwatched.now after.unwatched.now

@@ -1,5 +1,5 @@
 -- A whole replay: the header, then counts and rearms to the end.
-use Rattle.std.specs.Prelude.{ℕ, cond, List, [], length, None, Ok, Err, Option, Result, ◌==◌, nat_le}
+use Rattle.std.specs.Prelude.{ℕ, Bool, true, false, cond, List, [], length, None, Ok, Err, Option, Result, ◌==◌, nat_le}
 use Rattle.edetector.specs.declared.value.ValueFault.TheVariants.{Alternative as UnlikeClasses, Threshold}
 use Rattle.edetector.specs.Tables.{total, from_to}
 use Rattle.edetector.specs.Rules.{shiryaev_roberts, page}
@@ -7,6 +7,11 @@ use Rattle.edetector.specs.Bettors.{Strategy, fixed, adaptive, mixture, no_tally
 use Rattle.edetector.specs.Ledger.{Terms, Told, fresh, reading}
 use Rattle.edetector.specs.View.{terms}
 use Rattle.plantlog.specs.declared.fault.RecordFault.TheVariants.{NoneLeft}
+use Rattle.plantlog.specs.declared.record.Setup.{Setup}
+use Rattle.plantlog.specs.declared.record.BettorChoice.{BettorChoice}
+use Rattle.plantlog.specs.declared.record.BettorChoice.TheVariants.{Fixed, Adaptive, Mixture}
+use Rattle.plantlog.specs.declared.record.RuleChoice.{RuleChoice}
+use Rattle.plantlog.specs.declared.record.RuleChoice.TheVariants.{ShiryaevRoberts, Page}
 use Rattle.plantlog.specs.Results.{and_then}
 use Rattle.plantlog.specs.Format.{Fields}
 use Rattle.playback.specs.declared.stop.ReplayFault.{ReplayFault}
@@ -14,7 +19,7 @@ use Rattle.playback.specs.declared.stop.ReplayFault.TheVariants.{Record, Value, 
 use Rattle.playback.specs.declared.stop.Fault.{Fault}
 use Rattle.daybook.specs.declared.entry.unwatched.Unwatched.{Unwatched}
 use Rattle.daybook.specs.Entries.{AlarmView}
-use Rattle.playback.specs.Front.{Settings, next_fields, only_table, only_setup, only_alternative}
+use Rattle.playback.specs.Front.{next_fields, only_table, only_setup, only_alternative}
 use Rattle.playback.specs.Stream.{Stream, Over, Broken, Next, stream_of}
 use Rattle.playback.specs.Watch.{Watch, Places}
 use Rattle.playback.specs.Replaying.{Spot, behind, Finish, watching}
@@ -23,16 +28,16 @@ use Rattle.playback.specs.Replaying.{Spot, behind, Finish, watching}
 -- how it stands at last, and the fault if there was one
 pub data Said : Type 0 where
   Unmade : Fault → Said
-  Made : ℕ → ℕ → ℕ → ℕ → Told → Option Fault → Said
+  Made : ℕ → ℕ → ℕ → RuleChoice → Told → Option Fault → Said
 
 pub record Replay : Type 0 where
   pub said : Said
   pub alarms : List AlarmView
   pub unwatched : List Unwatched
 
--- the base of a rule by its number in a setup
-abbrev pub rule_base : ℕ → ℕ → ℕ
-rule_base r = cond (r == 1) shiryaev_roberts page
+abbrev pub rule_base : RuleChoice → ℕ → ℕ
+rule_base ShiryaevRoberts = shiryaev_roberts
+rule_base Page = page
 
 -- the first record of a stream, or why there is none; how many bytes it takes; what follows
 abbrev pub head_of : Stream → Result Fields ReplayFault
@@ -59,7 +64,7 @@ abbrev pub begun : Strategy → Watch
 begun play = record { standing = fresh play; last = None; counts = 0; alarms = []; unwatched = [] }
 
 -- what is told of a finish
-abbrev pub finished : List ℕ → Settings → Terms → Finish → Replay
+abbrev pub finished : List ℕ → Setup → Terms → Finish → Replay
 finished ws x t f = record {
   said = Made (length ws) (total ws) x.threshold x.rule (reading t f.watch.standing).answer f.fault;
   alarms = f.watch.alarms;
@@ -67,14 +72,21 @@ finished ws x t f = record {
 }
 
 -- a monitor with tag 1 watches the rest
-abbrev pub monitored : Places → List ℕ → Settings → Strategy → Stream → Spot → Replay
+abbrev pub monitored : Places → List ℕ → Setup → Strategy → Stream → Spot → Replay
 monitored p ws x play rest at =
     let t = terms ws (rule_base x.rule) x.threshold 1 in
     cond (from_to 1 4096 x.threshold) (finished ws x t (watching t p rest at (begun play))) (no_monitor at (Value Threshold))
 
--- bettor 1 is fixed, 3 a mixture of fixed and adaptive
-abbrev pub with_alternative : ℕ → List ℕ → List ℕ → Strategy
-with_alternative b ws alts = cond (b == 1) (fixed ws alts) (mixture ws ws (fixed ws alts) (adaptive ws (no_tally (length ws))))
+-- how the bettor plays that a setup names; the adaptive one has no alternative
+abbrev pub play_of : BettorChoice → List ℕ → List ℕ → Strategy
+play_of Fixed ws alts = fixed ws alts
+play_of Adaptive ws alts = adaptive ws (no_tally (length ws))
+play_of Mixture ws alts = mixture ws ws (fixed ws alts) (adaptive ws (no_tally (length ws)))
+
+abbrev pub has_alternative : BettorChoice → Bool
+has_alternative Fixed = true
+has_alternative Adaptive = false
+has_alternative Mixture = true
 
 -- an alternative, which must have as many classes as the null table
 abbrev pub as_many : List ℕ → List ℕ → Result (List ℕ) ReplayFault
@@ -86,18 +98,18 @@ alternative_of ws head = and_then (and_then head only_alternative) (as_many ws)
 abbrev pub alternative_for : List ℕ → List ℕ → Result (List ℕ) ReplayFault
 alternative_for ws left = alternative_of ws (next_fields left)
 
--- a third record, if the bettor needs one, and what follows it
-abbrev pub third : Places → List ℕ → Settings → Stream → Spot → Result (List ℕ) ReplayFault → Replay
-third p ws x s at (Ok alts) = monitored p ws x (with_alternative x.bettor ws alts) (rest_of s) (behind at (taken_of s))
+-- a third record, if the bettor has one, and what follows it
+abbrev pub third : Places → List ℕ → Setup → Stream → Spot → Result (List ℕ) ReplayFault → Replay
+third p ws x s at (Ok alts) = monitored p ws x (play_of x.bettor ws alts) (rest_of s) (behind at (taken_of s))
 third p ws x s at (Err f) = no_monitor at f
 
--- bettor 2 is adaptive and has no alternative
-abbrev pub after_setup : Places → List ℕ → Settings → Stream → Spot → Replay
+-- an alternative comes next exactly if the bettor has one
+abbrev pub after_setup : Places → List ℕ → Setup → Stream → Spot → Replay
 after_setup p ws x s at =
-    cond (x.bettor == 2) (monitored p ws x (adaptive ws (no_tally (length ws))) s at) (third p ws x s at (alternative_of ws (head_of s)))
+    cond (has_alternative x.bettor) (third p ws x s at (alternative_of ws (head_of s))) (monitored p ws x (play_of x.bettor ws []) s at)
 
 -- a setup, and what follows it
-abbrev pub second : Places → List ℕ → Stream → Spot → Result Settings ReplayFault → Replay
+abbrev pub second : Places → List ℕ → Stream → Spot → Result Setup ReplayFault → Replay
 second p ws s at (Ok x) = after_setup p ws x (rest_of s) (behind at (taken_of s))
 second p ws s at (Err f) = no_monitor at f
 

@@ -1,11 +1,7 @@
 -- Days rise: whatever day is above the last count's is above the last entry's in both books.
-use Rattle.std.specs.Prelude.{◌≡◌, ℕ, Bool, true, List, Option}
-use Rattle.daybook.specs.Books.{above, last_key}
+use Rattle.std.specs.Prelude.{◌≡◌, ℕ, true, List, Option}
+use Rattle.daybook.specs.Books.{above, above_in}
 use Rattle.playback.specs.Watch.{Watch}
-
--- whether a day is above the last entry's
-abbrev pub above_in : {X : Type 0} → (X → ℕ) → List X → ℕ → Bool
-above_in key entries day = above (last_key key entries) day
 
 abbrev pub Later : {X : Type 0} → (X → ℕ) → Option ℕ → List X → Type 0
 Later key last entries = (d : ℕ) → above last d ≡ true → above_in key entries d ≡ true

@@ -1,7 +1,6 @@
 -- What a replay's report says.
 use Rattle.std.specs.Prelude.{Ok, Err, Result}
 use Rattle.edetector.specs.View.{told_by}
-use Rattle.plantlog.specs.Choices.{rule_number}
 use Rattle.daybook.specs.declared.book.Book.{Book}
 use Rattle.daybook.specs.declared.entry.alarm.Alarm.{Alarm}
 use Rattle.daybook.specs.declared.entry.unwatched.Unwatched.{Unwatched}
@@ -13,7 +12,7 @@ use Rattle.playback.specs.Replayed.{Said, Unmade, Made, Replay}
 
 abbrev pub said_by : Result Run Fault → Said
 said_by (Err f) = Unmade f
-said_by (Ok r) = Made r.classes r.total r.threshold (rule_number r.rule) (told_by r.last) r.fault
+said_by (Ok r) = Made r.classes r.total r.threshold r.rule (told_by r.last) r.fault
 
 -- the report with what the books hold
 abbrev pub replay_told : Result Run Fault → Book Alarm → Book Unwatched → Replay

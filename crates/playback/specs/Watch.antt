@@ -1,5 +1,5 @@
 -- What a replay does with each record, by the calls of its monitor.
-use Rattle.std.specs.Prelude.{ℕ, ◌+◌, Bool, true, false, cond, List, [], ◌∷◌, ◌++◌, length, Some, Ok, Err, Option, Result, ◌==◌, nat_le}
+use Rattle.std.specs.Prelude.{ℕ, ◌+◌, Bool, true, false, cond, List, [], ◌∷◌, ◌++◌, Some, Ok, Err, Option, Result, ◌==◌}
 use Rattle.edetector.specs.declared.state.State.{State}
 use Rattle.edetector.specs.declared.state.State.TheVariants.{Armed, Staked, Rung}
 use Rattle.edetector.specs.declared.slip.OpenSlip.{OpenSlip}
@@ -11,7 +11,7 @@ use Rattle.playback.specs.declared.stop.ReplayFault.{ReplayFault}
 use Rattle.playback.specs.declared.stop.ReplayFault.TheVariants.{Monitor, Book, DayNotAbove, CountsDiffer}
 use Rattle.daybook.specs.declared.fault.BookFault.TheVariants.{Full}
 use Rattle.daybook.specs.declared.entry.unwatched.Unwatched.{Unwatched}
-use Rattle.daybook.specs.Books.{above}
+use Rattle.daybook.specs.Books.{all_used, above}
 use Rattle.daybook.specs.Entries.{AlarmView}
 
 -- the monitor, the last count's day, how many counts there were, and what the two books hold
@@ -86,15 +86,11 @@ watched_count t w day count = let r = watched t w.standing w.alarms day count in
 abbrev pub passed : Watch → ℕ → ℕ → Done
 passed w number day = taken (counted w day w.standing w.alarms (w.unwatched ++ (record { day = day; «record» = number } ∷ [])))
 
--- whether a book of so many places is full
-abbrev pub full : ℕ → ℕ → Bool
-full places used = nat_le places used
-
 -- a count goes unwatched while the alarm rings; the book that it may need must have a place
 abbrev pub by_state : State → Terms → Places → Watch → ℕ → ℕ → ℕ → Done
-by_state Armed t p w number day count = cond (full p.alarms (length w.alarms)) (faulted w (Book Full)) (watched_count t w day count)
-by_state Staked t p w number day count = cond (full p.alarms (length w.alarms)) (faulted w (Book Full)) (watched_count t w day count)
-by_state Rung t p w number day count = cond (full p.unwatched (length w.unwatched)) (faulted w (Book Full)) (passed w number day)
+by_state Armed t p w number day count = cond (all_used p.alarms w.alarms) (faulted w (Book Full)) (watched_count t w day count)
+by_state Staked t p w number day count = cond (all_used p.alarms w.alarms) (faulted w (Book Full)) (watched_count t w day count)
+by_state Rung t p w number day count = cond (all_used p.unwatched w.unwatched) (faulted w (Book Full)) (passed w number day)
 
 abbrev pub count_read : Terms → Places → Watch → ℕ → ℕ → ℕ → Done
 count_read t p w number day count = cond (above w.last day) (by_state w.standing.state t p w number day count) (faulted w DayNotAbove)

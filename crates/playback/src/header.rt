@@ -1,12 +1,13 @@
 // The records before the counts: a table, a setup, and an alternative where the bettor needs one.
 ghost use Rattle.std.specs.Prelude.{◌≡◌, ℕ, Ok, Err, Result, List, OnOk, refl};
 ghost use Rattle.edetector.specs.Weights.{null_weights, alternative_weights};
+ghost use Rattle.plantlog.specs.declared.record.Setup.{Setup as SetupValue};
 ghost use Rattle.plantlog.specs.Format.{Fields, Count as CountFields};
 ghost use Rattle.plantlog.specs.Results.{of_ok, and_then};
 ghost use Rattle.plantlog.specs.Views.{record_said};
 ghost use Rattle.playback.specs.declared.stop.ReplayFault.{ReplayFault};
 ghost use Rattle.playback.specs.declared.stop.ReplayFault.TheVariants.{NotAllowed};
-ghost use Rattle.playback.specs.Front.{Settings, next_fields, settings_of, only_table, only_setup, only_alternative};
+ghost use Rattle.playback.specs.Front.{next_fields, only_table, only_setup, only_alternative};
 ghost use Rattle.playback.specs.Rest.{at_spot, behind_record};
 
 use super::records::Records;
@@ -48,9 +49,9 @@ impl HeaderRecord for NullTable {
 }
 
 impl HeaderRecord for Setup {
-    ghost Said = { Settings };
+    ghost Said = { SetupValue };
 
-    ghost said = { settings_of };
+    ghost said = { λ setup. setup };
 
     ghost only = { only_setup };
 

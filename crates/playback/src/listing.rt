@@ -1,5 +1,5 @@
 // The listing of a replay, by its exact bytes.
-ghost use Rattle.std.specs.Prelude.{◌≡◌, List, ◌++◌, map, length, IfOk, string_bytes, OnOk};
+ghost use Rattle.std.specs.Prelude.{◌≡◌, ◌++◌, map, IfOk, string_bytes, OnOk};
 ghost use Rattle.daybook.specs.Entries.{alarm_view};
 ghost use Rattle.playback.specs.Listing.{monitor_part, last_part, listing_of};
 ghost use Rattle.playback.specs.Stops.{stop_number, stop_layer};

@@ -2,7 +2,6 @@
 ghost use Rattle.std.specs.Prelude.{◌≡◌, IfOk, OnOk};
 ghost use Rattle.edetector.specs.Weights.{null_weights, alternative_weights};
 ghost use Rattle.plantlog.specs.Results.{of_ok};
-ghost use Rattle.playback.specs.Front.{settings_of};
 ghost use Rattle.playback.specs.Held.{places_lent, NothingYet, KeepsBooks};
 ghost use Rattle.playback.specs.Replayed.{monitored, replayed, alternative_for};
 ghost use Rattle.playback.specs.Rest.{at_spot, behind_record};
@@ -36,7 +35,7 @@ fn run<B: Bettor + Drop>(
 ) -> Result<Run, Fault>
     requires table { B.nulls bettor ≡ null_weights null }
     requires begins { NothingYet records books.old }
-    ensures value { replay_told result books.new.alarms.now books.new.unwatched.now ≡ monitored (places_lent books.old) (null_weights null) (settings_of setup) (B.strategy bettor) (stream_of records.entry.left) records.entry.at }
+    ensures value { replay_told result books.new.alarms.now books.new.unwatched.now ≡ monitored (places_lent books.old) (null_weights null) setup (B.strategy bettor) (stream_of records.entry.left) records.entry.at }
     ensures kept { KeepsBooks books.old books.new }
 {
     let at = records.spot();

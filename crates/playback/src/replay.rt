@@ -1,6 +1,6 @@
 // The replay of a whole log.
 ghost use Rattle.std.specs.Prelude.{◌≡◌, None, IfOk};
-ghost use Rattle.daybook.specs.Books.{Behind};
+ghost use Rattle.daybook.specs.Books.{Keeps};
 ghost use Rattle.playback.specs.Accepted.{Accepted};
 ghost use Rattle.playback.specs.Course.{HasWholeCourse, OneFinish};
 ghost use Rattle.playback.specs.Figures.{Figures};
@@ -25,8 +25,7 @@ pub fn replay(
     unwatched: &mut Book<'_, Unwatched>,
 ) -> Result<Run, Fault>
     ensures value { replay_told result alarms.new unwatched.new ≡ replay_of (places_in alarms.old unwatched.old) log.now }
-    ensures places { places_in alarms.new unwatched.new ≡ places_in alarms.old unwatched.old }
-    ensures unused { Behind alarms.old.places.now alarms.new × Behind unwatched.old.places.now unwatched.new }
+    ensures kept { Keeps alarms.old alarms.new × Keeps unwatched.old unwatched.new }
     ensures accepts { IfOk result (λ run. run.fault ≡ None → Accepted log.now) }
     ensures whole_course { HasWholeCourse }
     ensures one_finish { OneFinish }

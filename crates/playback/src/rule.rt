@@ -1,5 +1,4 @@
 // The restart rule that a setup names.
-ghost use Rattle.plantlog.specs.Choices.{rule_number};
 ghost use Rattle.playback.specs.Replayed.{rule_base};
 ghost use Rattle.std.proofs.Common.{rules};
 
@@ -14,7 +13,7 @@ use plantlog::record::RuleChoice;
 pub(super) struct ChosenRule(pub(super) RuleChoice);
 
 impl RestartRule for ChosenRule {
-    ghost base = { λ r. rule_base (rule_number r.0) };
+    ghost base = { λ r. rule_base r.0 };
 
     ghost modest = { Prim.search rules };
 

@@ -1,5 +1,5 @@
 // A rearm record, and the end.
-ghost use Rattle.std.specs.Prelude.{◌≡◌, Ok, OnOk};
+ghost use Rattle.std.specs.Prelude.{◌≡◌, Ok};
 ghost use Rattle.edetector.specs.Ledger.{outcome};
 ghost use Rattle.edetector.specs.View.{view, terms_of};
 ghost use Rattle.plantlog.specs.declared.record.Kind.TheVariants.{Rearm as ARearm, End as AnEnd};

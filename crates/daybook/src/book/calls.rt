@@ -1,7 +1,7 @@
 // How a book is made, filled, read and emptied.
-ghost use Rattle.std.specs.Prelude.{◌≡◌, [], length};
+ghost use Rattle.std.specs.Prelude.{◌≡◌, [], ◌∷◌, ◌++◌, length, OnOk};
 ghost use Rattle.edetector.specs.View.{Unchanged};
-ghost use Rattle.daybook.specs.Books.{entries_of, unused_of, places_of, all_used, last_key, above, enter_answer, entered, unused_after, Keeps};
+ghost use Rattle.daybook.specs.Books.{entries_of, unused_of, places_of, all_used, above_in, enter_answer, Keeps};
 
 use super::Book;
 use crate::entry::Dated;
@@ -20,12 +20,9 @@ impl<'a, E: Dated + Copy> Book<'a, E> {
     // Writes e into the first unused place.
     pub fn enter(&mut self, e: E) -> Result<(), BookFault>
         ensures answer { result ≡ enter_answer E.key (places_of self.old) (entries_of self.old) e }
-        ensures entries { entries_of self.new ≡ entered E.key (places_of self.old) (entries_of self.old) e }
-        ensures unused { unused_of self.new ≡ unused_after E.key (places_of self.old) (entries_of self.old) (unused_of self.old) e }
+        ensures entered { OnOk result (entries_of self.new ≡ entries_of self.old ++ (e ∷ [])) }
         ensures kept { Keeps self.old self.new }
-        ensures places { places_of self.new ≡ places_of self.old }
         ensures refused { Unchanged result self.old self.new }
-        ensures lender { self.new.places.ghost_name ≡ self.old.places.ghost_name }
     {
         if self.is_full() {
             return Err(BookFault::Full);
@@ -59,16 +56,14 @@ impl<'a, E: Dated + Copy> Book<'a, E> {
     // Leaves no entry; the places keep what they hold.
     pub fn clear(&mut self)
         ensures entries { entries_of self.new ≡ [] }
-        ensures unused { unused_of self.new ≡ self.old.places.now }
-        ensures places { places_of self.new ≡ places_of self.old }
-        ensures lender { self.new.places.ghost_name ≡ self.old.places.ghost_name }
+        ensures kept { Keeps self.old self.new }
     {
         self.used = 0;
     }
 
     // Whether the day of e is above the last entry's.
     fn may_follow(&self, e: &E) -> bool
-        ensures { result ≡ above (last_key E.key (entries_of self.now)) (E.key e.now) }
+        ensures { result ≡ above_in E.key (entries_of self.now) (E.key e.now) }
     {
         self.entries()
             .last()

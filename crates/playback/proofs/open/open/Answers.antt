@@ -1,12 +1,10 @@
-use Rattle.std.proofs.Common.{eqb, Err, sym, ap, ◌∙◌, ap₂}
+use Rattle.std.proofs.Common.{Err, sym, ap, ◌∙◌, ap₂}
 use Rattle.std.proofs.lemmas.Result.{err_from_is_err_and}
 use Rattle.edetector.specs.declared.table.Table.{Table}
 use Rattle.edetector.specs.Bettors.{fixed, adaptive}
 use Rattle.edetector.specs.Weights.{null_weights, alternative_weights}
 use Rattle.plantlog.specs.declared.record.BettorChoice.{BettorChoice}
-use Rattle.plantlog.specs.Choices.{bettor_number}
-use Rattle.playback.specs.Front.{settings_of}
-use Rattle.playback.specs.Replayed.{with_alternative}
+use Rattle.playback.specs.Replayed.{play_of, has_alternative}
 use Rattle.playback.proofs.Opens.{unmade_told, header_taken, first_refused, second_refused, third_refused, first_taken, third_taken, goes_adaptive, mixed_plays}
 use Rattle.playback.proofs.open.open.Goals as goal
 
@@ -23,25 +21,24 @@ returns-in_err-setup-clause-value c =
 pub returns-in_err-fixed-in-Fixed-clause-value : goal.returns-in_err-fixed-in-Fixed-clause-value
 returns-in_err-fixed-in-Fixed-clause-value c =
     let x = err_from_is_err_and c.from_residual-in_err-fixed-in-Fixed.result c.from_residual-in_err-fixed-in-Fixed.ensures.1 in
-    let other = ap (λ (b : BettorChoice). eqb (bettor_number b) 2) c.in-Fixed.is in
+    let other = ap has_alternative c.in-Fixed.is in
     unmade_told c.from_residual-in_err-fixed-in-Fixed.result c.args.records c.args.books.now _ (x.1 ∙ ap Err x.2) c.requires.begins
-    ∙ third_refused _ c.header-2.new.records _ (settings_of c.in_ok-setup.setup) _ other c.in_err-fixed-in-Fixed.ensures.value
+    ∙ third_refused _ c.header-2.new.records _ c.in_ok-setup.setup _ other c.in_err-fixed-in-Fixed.ensures.value
     ∙ header_taken _ c.args.records c.header.new.records c.header-2.new.records c.in_ok-null.ensures.moved c.in_ok-setup.ensures.moved _ _ c.in_ok-null.ensures.value c.in_ok-setup.ensures.value
 
 pub returns-in_err-fixed-in-Mixture-clause-value : goal.returns-in_err-fixed-in-Mixture-clause-value
 returns-in_err-fixed-in-Mixture-clause-value c =
     let x = err_from_is_err_and c.from_residual-in_err-fixed-in-Mixture.result c.from_residual-in_err-fixed-in-Mixture.ensures.1 in
-    let other = ap (λ (b : BettorChoice). eqb (bettor_number b) 2) c.in-Mixture.is in
+    let other = ap has_alternative c.in-Mixture.is in
     unmade_told c.from_residual-in_err-fixed-in-Mixture.result c.args.records c.args.books.now _ (x.1 ∙ ap Err x.2) c.requires.begins
-    ∙ third_refused _ c.header-2.new.records _ (settings_of c.in_ok-setup.setup) _ other c.in_err-fixed-in-Mixture.ensures.value
+    ∙ third_refused _ c.header-2.new.records _ c.in_ok-setup.setup _ other c.in_err-fixed-in-Mixture.ensures.value
     ∙ header_taken _ c.args.records c.header.new.records c.header-2.new.records c.in_ok-null.ensures.moved c.in_ok-setup.ensures.moved _ _ c.in_ok-null.ensures.value c.in_ok-setup.ensures.value
 
 pub returns-in-Adaptive-clause-value : goal.returns-in-Adaptive-clause-value
 returns-in-Adaptive-clause-value c =
     let n = c.in_ok-null.null in
-    let is = ap bettor_number c.in-Adaptive.is in
     let plays = ap₂ (λ (x : Table 1) (y : _). adaptive (null_weights x) y) c.new.ensures.table c.new.ensures.fresh in
-    c.run.ensures.value ∙ goes_adaptive _ c.header-2.new.records (null_weights n) (settings_of c.in_ok-setup.setup) _ is plays
+    c.run.ensures.value ∙ goes_adaptive _ c.header-2.new.records (null_weights n) c.in_ok-setup.setup _ c.in-Adaptive.is plays
     ∙ header_taken _ c.args.records c.header.new.records c.header-2.new.records c.in_ok-null.ensures.moved c.in_ok-setup.ensures.moved _ _ c.in_ok-null.ensures.value c.in_ok-setup.ensures.value
 
 pub returns-in_ok-fixed-in-Fixed-clause-value : goal.returns-in_ok-fixed-in-Fixed-clause-value
@@ -49,10 +46,10 @@ returns-in_ok-fixed-in-Fixed-clause-value c =
     let n = c.in_ok-null.null in
     let f = c.in_ok-fixed-in-Fixed.field-0 in
     let alts = alternative_weights f.alternative in
-    let other = ap (λ (b : BettorChoice). eqb (bettor_number b) 2) c.in-Fixed.is in
-    let plays = ap (λ (x : Table 1). fixed (null_weights x) alts) c.in_ok-fixed-in-Fixed.ensures.table ∙ sym (ap (λ (b : BettorChoice). with_alternative (bettor_number b) (null_weights n) alts) c.in-Fixed.is) in
+    let other = ap has_alternative c.in-Fixed.is in
+    let plays = ap (λ (x : Table 1). fixed (null_weights x) alts) c.in_ok-fixed-in-Fixed.ensures.table ∙ sym (ap (λ (b : BettorChoice). play_of b (null_weights n) alts) c.in-Fixed.is) in
     c.run-in-Fixed.ensures.value
-    ∙ third_taken _ c.header-2.new.records c.fixed.new.records c.in_ok-fixed-in-Fixed.ensures.moved (null_weights n) (settings_of c.in_ok-setup.setup) alts _ other c.in_ok-fixed-in-Fixed.ensures.value plays
+    ∙ third_taken _ c.header-2.new.records c.fixed.new.records c.in_ok-fixed-in-Fixed.ensures.moved (null_weights n) c.in_ok-setup.setup alts _ other c.in_ok-fixed-in-Fixed.ensures.value plays
     ∙ header_taken _ c.args.records c.header.new.records c.header-2.new.records c.in_ok-null.ensures.moved c.in_ok-setup.ensures.moved _ _ c.in_ok-null.ensures.value c.in_ok-setup.ensures.value
 
 pub returns-in_ok-fixed-in-Mixture-clause-value : goal.returns-in_ok-fixed-in-Mixture-clause-value
@@ -61,8 +58,8 @@ returns-in_ok-fixed-in-Mixture-clause-value c =
     let f = c.in_ok-fixed-in-Mixture.field-0 in
     let a = c.new-in-Mixture.result in
     let alts = alternative_weights f.alternative in
-    let other = ap (λ (b : BettorChoice). eqb (bettor_number b) 2) c.in-Mixture.is in
-    let plays = mixed_plays c.new-mixture.result f a n c.new-mixture.ensures c.in_ok-fixed-in-Mixture.ensures.table c.new-in-Mixture.ensures.table c.new-in-Mixture.ensures.fresh ∙ sym (ap (λ (b : BettorChoice). with_alternative (bettor_number b) (null_weights n) alts) c.in-Mixture.is) in
+    let other = ap has_alternative c.in-Mixture.is in
+    let plays = mixed_plays c.new-mixture.result f a n c.new-mixture.ensures c.in_ok-fixed-in-Mixture.ensures.table c.new-in-Mixture.ensures.table c.new-in-Mixture.ensures.fresh ∙ sym (ap (λ (b : BettorChoice). play_of b (null_weights n) alts) c.in-Mixture.is) in
     c.run-in-Mixture.ensures.value
-    ∙ third_taken _ c.header-2.new.records c.fixed-in-Mixture.new.records c.in_ok-fixed-in-Mixture.ensures.moved (null_weights n) (settings_of c.in_ok-setup.setup) alts _ other c.in_ok-fixed-in-Mixture.ensures.value plays
+    ∙ third_taken _ c.header-2.new.records c.fixed-in-Mixture.new.records c.in_ok-fixed-in-Mixture.ensures.moved (null_weights n) c.in_ok-setup.setup alts _ other c.in_ok-fixed-in-Mixture.ensures.value plays
     ∙ header_taken _ c.args.records c.header.new.records c.header-2.new.records c.in_ok-null.ensures.moved c.in_ok-setup.ensures.moved _ _ c.in_ok-null.ensures.value c.in_ok-setup.ensures.value
