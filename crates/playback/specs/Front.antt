@@ -1,5 +1,5 @@
 -- The next record, as a replay sees it.
-use Rattle.std.specs.Prelude.{ℕ, cond, List, Ok, Err, Result, ◌==◌}
+use Rattle.std.specs.Prelude.{ℕ, if◌then◌else◌, List, Ok, Err, Result, ◌==◌}
 use Rattle.plantlog.specs.declared.fault.RecordFault.{RecordFault}
 use Rattle.plantlog.specs.declared.record.Setup.{Setup as SetupValue}
 use Rattle.plantlog.specs.declared.record.RuleChoice.{RuleChoice}
@@ -27,10 +27,10 @@ only_table _ = Err NotAllowed
 
 -- the rule of its number in a setup, 1 or 2, and the bettor of its number, 1 to 3
 abbrev pub rule_named : ℕ → RuleChoice
-rule_named r = cond (r == 1) ShiryaevRoberts Page
+rule_named r = if r == 1 then ShiryaevRoberts else Page
 
 abbrev pub bettor_named : ℕ → BettorChoice
-bettor_named b = cond (b == 1) Fixed (cond (b == 2) Adaptive Mixture)
+bettor_named b = if b == 1 then Fixed else if b == 2 then Adaptive else Mixture
 
 abbrev pub only_setup : Fields → Result SetupValue ReplayFault
 only_setup (Setup a r b) = Ok (record { threshold = a; rule = rule_named r; bettor = bettor_named b })

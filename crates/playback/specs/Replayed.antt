@@ -1,5 +1,5 @@
 -- A whole replay: the header, then counts and rearms to the end.
-use Rattle.std.specs.Prelude.{ℕ, Bool, true, false, cond, List, [], length, None, Ok, Err, Option, Result, ◌==◌, nat_le}
+use Rattle.std.specs.Prelude.{ℕ, Bool, true, false, if◌then◌else◌, List, [], length, None, Ok, Err, Option, Result, ◌==◌, nat_le}
 use Rattle.edetector.specs.declared.value.ValueFault.TheVariants.{Alternative as UnlikeClasses, Threshold}
 use Rattle.edetector.specs.Tables.{total, from_to}
 use Rattle.edetector.specs.Rules.{shiryaev_roberts, page}
@@ -75,7 +75,7 @@ finished ws x t f = record {
 abbrev pub monitored : Places → List ℕ → Setup → Strategy → Stream → Spot → Replay
 monitored p ws x play rest at =
     let t = terms ws (rule_base x.rule) x.threshold 1 in
-    cond (from_to 1 4096 x.threshold) (finished ws x t (watching t p rest at (begun play))) (no_monitor at (Value Threshold))
+    if from_to 1 4096 x.threshold then finished ws x t (watching t p rest at (begun play)) else no_monitor at (Value Threshold)
 
 -- how the bettor plays that a setup names; the adaptive one has no alternative
 abbrev pub play_of : BettorChoice → List ℕ → List ℕ → Strategy
@@ -90,7 +90,7 @@ has_alternative Mixture = true
 
 -- an alternative, which must have as many classes as the null table
 abbrev pub as_many : List ℕ → List ℕ → Result (List ℕ) ReplayFault
-as_many ws alts = cond (length alts == length ws) (Ok alts) (Err (Value UnlikeClasses))
+as_many ws alts = if length alts == length ws then Ok alts else Err (Value UnlikeClasses)
 
 abbrev pub alternative_of : List ℕ → Result Fields ReplayFault → Result (List ℕ) ReplayFault
 alternative_of ws head = and_then (and_then head only_alternative) (as_many ws)
@@ -106,7 +106,7 @@ third p ws x s at (Err f) = no_monitor at f
 -- an alternative comes next exactly if the bettor has one
 abbrev pub after_setup : Places → List ℕ → Setup → Stream → Spot → Replay
 after_setup p ws x s at =
-    cond (has_alternative x.bettor) (third p ws x s at (alternative_of ws (head_of s))) (monitored p ws x (play_of x.bettor ws []) s at)
+    if has_alternative x.bettor then third p ws x s at (alternative_of ws (head_of s)) else monitored p ws x (play_of x.bettor ws []) s at
 
 -- a setup, and what follows it
 abbrev pub second : Places → List ℕ → Stream → Spot → Result Setup ReplayFault → Replay
@@ -127,4 +127,4 @@ replayed p s at = first p s at (and_then (head_of s) only_table)
 -- a log of at most 65,536 bytes is replayed from its first record
 abbrev pub replay_of : Places → List ℕ → Replay
 replay_of p log =
-    cond (nat_le (length log) 65536) (replayed p (stream_of log) (record { number = 1; byte = 0 })) (no_monitor (record { number = 0; byte = 0 }) TooLong)
+    if nat_le (length log) 65536 then replayed p (stream_of log) (record { number = 1; byte = 0 }) else no_monitor (record { number = 0; byte = 0 }) TooLong

@@ -1,5 +1,5 @@
 -- What is left of a log, and what was in the part that a replay moved past.
-use Rattle.std.specs.Prelude.{ℕ, ◌+◌, List, drop, cond, length, nat_le, Some, None, Ok, Err, Option, Result}
+use Rattle.std.specs.Prelude.{ℕ, ◌+◌, List, drop, if◌then◌else◌, length, nat_le, Some, None, Ok, Err, Option, Result}
 use Rattle.plantlog.specs.Calls.{span}
 use Rattle.playback.specs.declared.stop.Fault.{Fault}
 use Rattle.playback.specs.declared.stop.ReplayFault.{ReplayFault}
@@ -23,7 +23,7 @@ abbrev pub whole : List ℕ → Rest
 whole log = record { left = log; at = record { number = 1; byte = 0 }; last = None; counts = 0 }
 
 abbrev pub taken_whole : List ℕ → Result Rest Fault
-taken_whole log = cond (nat_le (length log) 65536) (Ok (whole log)) (at_spot (record { number = 0; byte = 0 }) (Err TooLong))
+taken_whole log = if nat_le (length log) 65536 then Ok (whole log) else at_spot (record { number = 0; byte = 0 }) (Err TooLong)
 
 -- behind a record in front that is no count, or that is a count of the day
 abbrev pub behind_record : Rest → Rest

@@ -1,5 +1,5 @@
 -- What a replay does with each record, by the calls of its monitor.
-use Rattle.std.specs.Prelude.{ℕ, ◌+◌, Bool, true, false, cond, List, [], ◌∷◌, ◌++◌, Some, Ok, Err, Option, Result, ◌==◌}
+use Rattle.std.specs.Prelude.{ℕ, ◌+◌, Bool, true, false, if◌then◌else◌, List, [], ◌∷◌, ◌++◌, Some, Ok, Err, Option, Result, ◌==◌}
 use Rattle.edetector.specs.declared.state.State.{State}
 use Rattle.edetector.specs.declared.state.State.TheVariants.{Armed, Staked, Rung}
 use Rattle.edetector.specs.declared.slip.OpenSlip.{OpenSlip}
@@ -88,12 +88,12 @@ passed w number day = taken (counted w day w.standing w.alarms (w.unwatched ++ (
 
 -- a count goes unwatched while the alarm rings; the book that it may need must have a place
 abbrev pub by_state : State → Terms → Places → Watch → ℕ → ℕ → ℕ → Done
-by_state Armed t p w number day count = cond (all_used p.alarms w.alarms) (faulted w (Book Full)) (watched_count t w day count)
-by_state Staked t p w number day count = cond (all_used p.alarms w.alarms) (faulted w (Book Full)) (watched_count t w day count)
-by_state Rung t p w number day count = cond (all_used p.unwatched w.unwatched) (faulted w (Book Full)) (passed w number day)
+by_state Armed t p w number day count = if all_used p.alarms w.alarms then faulted w (Book Full) else watched_count t w day count
+by_state Staked t p w number day count = if all_used p.alarms w.alarms then faulted w (Book Full) else watched_count t w day count
+by_state Rung t p w number day count = if all_used p.unwatched w.unwatched then faulted w (Book Full) else passed w number day
 
 abbrev pub count_read : Terms → Places → Watch → ℕ → ℕ → ℕ → Done
-count_read t p w number day count = cond (above w.last day) (by_state w.standing.state t p w number day count) (faulted w DayNotAbove)
+count_read t p w number day count = if above w.last day then by_state w.standing.state t p w number day count else faulted w DayNotAbove
 
 abbrev pub of_monitor : {X : Type 0} → Result X MonitorFault → Result X ReplayFault
 of_monitor (Ok x) = Ok x
@@ -111,7 +111,7 @@ rearm_read t w = let o = rearm_leads t w.standing in done o.answer (restood w o.
 
 -- the end says how many counts there were
 abbrev pub end_answer : ℕ → ℕ → Result (Unit {0}) ReplayFault
-end_answer counts n = cond (n == counts) (Ok tt) (Err CountsDiffer)
+end_answer counts n = if n == counts then Ok tt else Err CountsDiffer
 
 abbrev pub end_read : Watch → ℕ → Done
 end_read w n = done (end_answer w.counts n) w
