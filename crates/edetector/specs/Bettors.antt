@@ -1,6 +1,6 @@
 -- What bettors play: a strategy names a row of factors for every list of classes that may yet be learned.
 -- A factor of 4,096 leaves a bet as it is. Every division drops its remainder.
-use Rattle.std.specs.Prelude.{ℕ, ◌+◌, ◌*◌, ◌/◌, Bool, true, false, cond, ◌&&◌, List, [], ◌∷◌, length, replicate, ◌==◌, nat_lt, slice_index, slice_set}
+use Rattle.std.specs.Prelude.{◌≡◌, ℕ, ◌+◌, ◌*◌, ◌/◌, Bool, true, false, cond, ◌&&◌, List, [], ◌∷◌, length, replicate, ◌==◌, nat_lt, slice_index, slice_set}
 use Rattle.edetector.specs.Tables.{total}
 
 -- the row for the empty list is the row now
@@ -14,6 +14,10 @@ after_class play k = λ later. play (k ∷ later)
 -- the strategy once k is learned, which may be no class of the table ws: then nothing is learned
 abbrev pub learned : List ℕ → Strategy → ℕ → Strategy
 learned ws play k = cond (nat_lt k (length ws)) (after_class play k) play
+
+-- a bettor before and after it learns k: its table stays, and its strategy goes on
+abbrev pub LearnStep : {B : Type 0} → (B → List ℕ) → (B → Strategy) → ℕ → B → B → Type 0
+LearnStep nulls strategy k before after = (nulls after ≡ nulls before) × (strategy after ≡ learned (nulls before) (strategy before) k)
 
 -- the likelihood ratio (a / v) : (w / whole) of a class with alternative weight a out of v and null weight w out of whole
 abbrev pub ratio : ℕ → ℕ → ℕ → ℕ → ℕ

@@ -2,7 +2,7 @@
 ghost use Rattle.std.specs.Prelude.{◌≡◌, ℕ, ◌≤◌, List, [], length, slice_index};
 ghost use Rattle.edetector.specs.Units.{IsRow};
 ghost use Rattle.edetector.specs.Tables.{IsNullTable, Fair};
-ghost use Rattle.edetector.specs.Bettors.{learned};
+ghost use Rattle.edetector.specs.Bettors.{LearnStep};
 
 use super::units::{Factor, Row, Weight};
 use std::array;
@@ -25,8 +25,7 @@ pub trait Bettor {
 
     // A number that is no class changes nothing.
     fn learn(&mut self, class: usize)
-        ensures table { nulls self.new ≡ nulls self.old }
-        ensures step { strategy self.new ≡ learned (nulls self.old) (strategy self.old) class }
+        ensures step { LearnStep nulls strategy class self.old self.new }
         ensures same { length (nulls self.old) ≤ class → self.new ≡ self.old };
 
     // The row now, with zeros behind it.

@@ -1,8 +1,8 @@
 // A mixture of any two bettors, which bets half on each.
-ghost use Rattle.std.specs.Prelude.{◌≡◌, ℕ, ◌+◌, ◌/◌, ◌≤◌, List, [], if◌then◌else◌, Ok, Err, slice_index};
+ghost use Rattle.std.specs.Prelude.{◌≡◌, ℕ, ◌+◌, ◌/◌, ◌<◌, ◌≤◌, List, [], if◌then◌else◌, length, Ok, Err, slice_index};
 ghost use Rattle.edetector.specs.declared.value.ValueFault.TheVariants.{NullTables};
 ghost use Rattle.edetector.specs.Units.{factors_in};
-ghost use Rattle.edetector.specs.Bettors.{mixture as plays, same_table};
+ghost use Rattle.edetector.specs.Bettors.{LearnStep, mixture as plays, same_table};
 ghost use Rattle.edetector.specs.Mixing.{mixed_long, mixed_fair};
 
 use super::bettor::Bettor;
@@ -88,8 +88,12 @@ impl<F: Bettor, S: Bettor> Bettor for Mixture<F, S> {
         average(f, self.second.factor(class))
     }
 
-    // Both learn every class of the mixture's own table.
-    fn learn(&mut self, class: usize) {
+    // Both learn every class of the mixture's own table, also where the two tables differ.
+    fn learn(&mut self, class: usize)
+        ensures first { class < length (F.Bettor.nulls self.old.first) → LearnStep F.Bettor.nulls F.Bettor.strategy class self.old.first self.new.first }
+        ensures second { class < length (F.Bettor.nulls self.old.first) → LearnStep S.Bettor.nulls S.Bettor.strategy class self.old.second self.new.second }
+        ensures same { length (F.Bettor.nulls self.old.first) ≤ class → self.new ≡ self.old }
+    {
         if class < self.classes() {
             self.first.learn(class);
             self.second.learn(class);

@@ -21,7 +21,6 @@ pub returns-then-self-lt-MOST_TALLIED : goal.returns-then-self-lt-MOST_TALLIED
 returns-then-self-lt-MOST_TALLIED c =
     let b = c.args.self.now in
     record {
-      table = refl;
-      step = learns b.null.classes c.args.class b.seen (null_weights b.null) b.counts (null_long b.null) c.if-class-self.true c.if-self-lt-MOST_TALLIED.true;
+      step = (refl, learns b.null.classes c.args.class b.seen (null_weights b.null) b.counts (null_long b.null) c.if-class-self.true c.if-self-lt-MOST_TALLIED.true);
       same = λ past. absurd (omega (arith, past, null_long b.null, c.if-class-self.true));
     }
