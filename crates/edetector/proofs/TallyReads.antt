@@ -1,13 +1,14 @@
 -- The adaptive bettor: what its own facts give at a class, and what one class learned does.
-use Rattle.std.specs.Prelude.{◌≡◌, ℕ, zero, suc, ◌+◌, ◌*◌, ◌/◌, ◌<◌, ◌≤◌, Bool, true, false, cond, ltb, List, [], length, take, set, replicate, ◌≢◌, nat_lt, slice_index, slice_index_or, slice_set, refl}
+use Rattle.std.specs.Prelude.{◌≡◌, ℕ, zero, suc, ◌+◌, ◌*◌, ◌/◌, ◌<◌, ◌≤◌, Bool, true, false, cond, ltb, List, [], length, take, set, replicate, nat_lt, slice_index, slice_index_or, slice_set, refl}
 use Rattle.std.proofs.Common.{sym, ap, ap₂, ◌∙◌, arith}
+use Rattle.std.proofs.lemmas.Bool.{cond-false}
 use Rattle.std.proofs.lemmas.Bool.Decides.{nat_tests}
 use Rattle.std.proofs.Math.Seq.{take-set-lt}
 use Rattle.std.proofs.lemmas.List.{get_or-take, get_or_past, take-replicate}
 use Rattle.edetector.specs.declared.adaptive.Adaptive.{Adaptive}
 use Rattle.edetector.specs.Tables.{total}
 use Rattle.edetector.specs.Weights.{null_weights}
-use Rattle.edetector.specs.Bettors.{Strategy, learned, ratio, Tally, no_tally, one_more, tally_class, adaptive, plus}
+use Rattle.edetector.specs.Bettors.{Strategy, learned, LearnStep, ratio, Tally, no_tally, one_more, tally_class, adaptive, plus}
 use Rattle.edetector.specs.Tallies.{tally_of}
 use Rattle.edetector.specs.Held.{null_long, is_null_table}
 use Rattle.edetector.specs.Adapting.{plus_long, total_set}
@@ -35,7 +36,7 @@ total_zeros n h = ap total (take-replicate n 16 0 h) ∙ total_none n
 pub tally_zeros : (n m : ℕ) → n ≤ 16 → m ≡ n → ◌≡◌ {A = Tally} (record { counts = take n (replicate 16 0); seen = 0 }) (no_tally m)
 tally_zeros n m h e = let z : take n (replicate 16 0) ≡ replicate {A = ℕ} n 0 = take-replicate n 16 0 h in rw (e, z) refl
 
-tally_learns : (n k seen : ℕ) (ws cs : List ℕ) → length ws ≡ n → k < n → seen < 1000000 →
+pub tally_learns : (n k seen : ℕ) (ws cs : List ℕ) → length ws ≡ n → k < n → seen < 1000000 →
     ◌≡◌ {A = Tally} (record { counts = take n (slice_set cs k (slice_index cs k + 1)); seen = seen + 1 }) (tally_class ws (record { counts = take n cs; seen = seen }) k)
 tally_learns n k seen ws cs long h room =
     let below : ltb k (length ws) ≡ true = grind (arith, nat_tests) in
@@ -44,21 +45,24 @@ tally_learns n k seen ws cs long h room =
     let moved = take-set-lt n cs k (slice_index cs k + 1) h in
     rw (below, left, at, moved)
 
-pub learns : (n k seen : ℕ) (ws cs : List ℕ) → length ws ≡ n → k < n → seen < 1000000 →
-    ◌≡◌ {A = Strategy} (adaptive ws (record { counts = take n (slice_set cs k (slice_index cs k + 1)); seen = seen + 1 })) (learned ws (adaptive ws (record { counts = take n cs; seen = seen })) k)
-learns n k seen ws cs long h room =
-    ap (adaptive ws) (tally_learns n k seen ws cs long h room) ∙ adaptive_learns ws (record { counts = take n cs; seen = seen }) k
+-- a class learned is one more in all
+pub tally_moves : (n k seen : ℕ) (ws cs : List ℕ) → length ws ≡ n → k < n → seen < 1000000 →
+    ◌≡◌ {A = Tally} (tally_class ws (record { counts = take n cs; seen = seen }) k) (record { counts = take n cs; seen = seen }) → ⊥
+tally_moves n k seen ws cs long h room e =
+    let more : seen + 1 ≡ seen = ap (λ (t : Tally). t.seen) (tally_learns n k seen ws cs long h room ∙ e) in
+    omega (arith, more)
 
--- nothing is learned of a class that is none, or when enough was seen
-nothing : (p q : Bool) (t : Tally) (k : ℕ) → (p ≡ true → q ≢ true) → ◌≡◌ {A = Tally} t (cond p (cond q (one_more t k) t) t)
-nothing true true t k h = absurd (h refl refl)
-nothing true false t k h = refl
-nothing false q t k h = refl
+none_tallied : (ws : List ℕ) (t : Tally) (k : ℕ) → length ws ≤ k → ◌≡◌ {A = Tally} (tally_class ws t k) t
+none_tallied ws t k past = cond-false (nat_lt k (length ws)) (cond (nat_lt t.seen 1000000) (one_more t k) t) t (grind (arith, nat_tests))
 
-pub learns_nothing : (n k : ℕ) (ws : List ℕ) (t : Tally) → length ws ≡ n → (k < n → t.seen < 1000000 → ⊥) →
-    ◌≡◌ {A = Strategy} (adaptive ws t) (learned ws (adaptive ws t) k)
-learns_nothing n k ws t long no_room =
-    ap (adaptive ws) (nothing (nat_lt k (length ws)) (nat_lt t.seen 1000000) t k (λ p q. no_room (grind (arith, nat_tests)) (grind (arith, nat_tests)))) ∙ adaptive_learns ws t k
+-- what the adaptive bettor promises of learning, as any bettor promises it
+module _ (b after : Adaptive) (k : ℕ) where
+  pub tally_steps : after.null ≡ b.null → ◌≡◌ {A = Tally} (tally_of after) (tally_class (null_weights b.null) (tally_of b) k) →
+      LearnStep (λ (x : Adaptive). null_weights x.null) (λ (x : Adaptive). adaptive (null_weights x.null) (tally_of x)) k b after
+  tally_steps table tally = (ap null_weights table, ap₂ (λ n t. adaptive (null_weights n) t) table tally ∙ adaptive_learns (null_weights b.null) (tally_of b) k)
+
+  pub tally_past : (◌≡◌ {A = Tally} (tally_class (null_weights b.null) (tally_of b) k) (tally_of b) → after ≡ b) → length (null_weights b.null) ≤ k → after ≡ b
+  tally_past same past = same (none_tallied (null_weights b.null) (tally_of b) k past)
 
 module _ (b : Adaptive) where
   pub factor_past : (k : ℕ) → b.null.classes ≤ k → 0 ≡ slice_index (adaptive (null_weights b.null) (tally_of b) []) k

@@ -1,6 +1,6 @@
 // How the adaptive bettor is made, what it plays and how it learns.
 ghost use Rattle.std.specs.Prelude.{◌≡◌, ℕ, length};
-ghost use Rattle.edetector.specs.Bettors.{adaptive as plays, no_tally};
+ghost use Rattle.edetector.specs.Bettors.{adaptive as plays, no_tally, tally_class};
 ghost use Rattle.edetector.specs.Tallies.{tally_of};
 ghost use Rattle.edetector.specs.Weights.{null_weights};
 ghost use Rattle.edetector.specs.Held.{is_null_table};
@@ -59,7 +59,12 @@ impl Bettor for Adaptive {
         likelihood_ratio(whole, whole + self.seen, w, a)
     }
 
-    fn learn(&mut self, class: usize) {
+    // A tally that stays leaves all else as it was.
+    fn learn(&mut self, class: usize)
+        ensures table { self.new.null ≡ self.old.null }
+        ensures tally { tally_of self.new ≡ tally_class (null_weights self.old.null) (tally_of self.old) class }
+        ensures same { tally_class (null_weights self.old.null) (tally_of self.old) class ≡ tally_of self.old → self.new ≡ self.old }
+    {
         if class < self.null.classes && self.seen < MOST_TALLIED {
             self.counts[class] += 1;
             self.seen += 1;

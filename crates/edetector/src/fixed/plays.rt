@@ -80,5 +80,7 @@ impl Bettor for Fixed {
         self.row
     }
 
-    fn learn(&mut self, _class: usize) {}
+    fn learn(&mut self, _class: usize)
+        ensures same { self.new ≡ self.old }
+    {}
 }

@@ -1,7 +1,7 @@
 use Rattle.std.proofs.Common.{◌+◌, get_or, refl, ◌∙◌, arith, length-set}
 use Rattle.edetector.specs.Weights.{null_weights}
 use Rattle.edetector.specs.Held.{null_long}
-use Rattle.edetector.proofs.TallyReads.{count_part, tally_more, learns}
+use Rattle.edetector.proofs.TallyReads.{count_part, tally_more, tally_learns, tally_moves}
 use Rattle.edetector.proofs.adaptive.plays.AdaptiveBettor.learn.Goals as goal
 
 pub overflow_add-self : goal.overflow_add-self
@@ -20,7 +20,12 @@ invariant_of-self c =
 pub returns-then-self-lt-MOST_TALLIED : goal.returns-then-self-lt-MOST_TALLIED
 returns-then-self-lt-MOST_TALLIED c =
     let b = c.args.self.now in
+    let ws = null_weights b.null in
+    let long = null_long b.null in
+    let below = c.if-class-self.true in
+    let room = c.if-self-lt-MOST_TALLIED.true in
     record {
-      step = (refl, learns b.null.classes c.args.class b.seen (null_weights b.null) b.counts (null_long b.null) c.if-class-self.true c.if-self-lt-MOST_TALLIED.true);
-      same = λ past. absurd (omega (arith, past, null_long b.null, c.if-class-self.true));
+      table = refl;
+      tally = tally_learns b.null.classes c.args.class b.seen ws b.counts long below room;
+      same = λ none. absurd (tally_moves b.null.classes c.args.class b.seen ws b.counts long below room none);
     }
