@@ -10,7 +10,8 @@ use Rattle.edetector.specs.declared.fault.Refused.{Refused}
 use Rattle.edetector.specs.Tables.{weigh, total, Fair, class_of}
 use Rattle.edetector.specs.Rules.{bet}
 use Rattle.edetector.specs.Bettors.{Strategy}
-use Rattle.edetector.specs.Ledger.{Terms, Standing, Outcome, outcome, fresh, settled, rings, grown, while_staked}
+use Rattle.edetector.specs.Slips.{shown_slip}
+use Rattle.edetector.specs.Ledger.{Terms, Standing, Outcome, outcome, fresh, fitting_slip, settled, rings, grown, while_staked}
 use Rattle.edetector.specs.Plans.{Plan, run, all_called, if_staked, next, heard, rounds_in, alarms_in, Bound}
 use Rattle.edetector.specs.Sums.{weigh_mono, weigh_add, weigh_scale}
 use Rattle.edetector.proofs.Weighing.{weigh_same, weigh_within, weigh_const, fair_step}
@@ -98,7 +99,7 @@ module _ (t : Terms) (p : Plan) (lawful : (m : ℕ) → t.base m ≤ m + bet) wh
   next_is m k e =
       let tags : eqb t.tag t.tag ≡ true = grind (arith, nat_tests) in
       let numbers : eqb (m.rounds + 1) (m.rounds + 1) ≡ true = grind (arith, nat_tests) in
-      let slip : ShownSlip = record { tag = t.tag; number = m.rounds + 1; count = k } in
+      let slip = shown_slip (fitting_slip t m) k in
       ap (λ b. cond b (accepted m k) (outcome (Err (record { fault = Misfit; slip = slip })) m)) (ap₂ while_staked e (ap₂ (λ x y. x && y) tags numbers))
 
   by_state : (h : ℕ) (m : Standing) (past : List ℕ) (st : State) → m.state ≡ st → row_fair t.nulls st m.row → ((k : ℕ) → Holds h (settled t m (class_of (length t.nulls) k)) (past ++ (k ∷ []))) →

@@ -6,9 +6,9 @@ use Rattle.edetector.specs.Tables.{Fair, class_of}
 use Rattle.edetector.specs.declared.fault.MonitorFault.TheVariants.{Misfit, Spent}
 use Rattle.edetector.specs.Rules.{bet}
 use Rattle.edetector.specs.Bettors.{Strategy}
-use Rattle.edetector.specs.Ledger.{Terms, Standing, Outcome, outcome, rings, staked, settled, withdrawn}
+use Rattle.edetector.specs.Ledger.{Terms, Standing, Outcome, outcome, fitting_slip, rings, staked, settled, withdrawn}
 use Rattle.edetector.specs.View.{standing}
-use Rattle.edetector.specs.Plans.{Call, fitting_slip, called, all_called}
+use Rattle.edetector.specs.Plans.{Call, called, all_called}
 use Rattle.edetector.specs.Plans.Call.{Stake, Withdraw, Rearm, Read, SettleStray, WithdrawStray}
 
 abbrev pub potential_at : ℕ → State → ℕ → ℕ

@@ -38,14 +38,18 @@ outcome a s = record { answer = a; after = s }
 abbrev pub fresh : Strategy → Standing
 fresh play = record { state = Armed; ledger = 0; rounds = 0; alarms = 0; row = []; play = play }
 
+-- the slip of the round to come, which a stake gives
+abbrev pub fitting_slip : Terms → Standing → OpenSlip
+fitting_slip t s = record { tag = t.tag; number = s.rounds + 1 }
+
 -- Stake: the row now is copied, before any count is seen
 abbrev pub staked : Standing → Standing
-staked s = record { state = Staked; ledger = s.ledger; rounds = s.rounds; alarms = s.alarms; row = s.play []; play = s.play }
+staked s = record s { state = Staked; row = s.play [] }
 
 abbrev pub staking : Terms → Standing → Outcome (Result OpenSlip MonitorFault)
 staking t s =
     elim s.state [
-      | Armed ↦ cond (nat_lt s.rounds 1000000) (outcome (Ok (record { tag = t.tag; number = s.rounds + 1 })) (staked s)) (outcome (Err Spent) s)
+      | Armed ↦ cond (nat_lt s.rounds 1000000) (outcome (Ok (fitting_slip t s)) (staked s)) (outcome (Err Spent) s)
       | Staked ↦ outcome (Err NotArmed) s
       | Rung ↦ outcome (Err NotArmed) s
     ]
@@ -85,7 +89,7 @@ settling t s slip =
 
 -- Withdraw
 abbrev pub withdrawn : Standing → Standing
-withdrawn s = record { state = Armed; ledger = s.ledger; rounds = s.rounds; alarms = s.alarms; row = []; play = s.play }
+withdrawn s = record s { state = Armed; row = [] }
 
 abbrev pub withdrawing : Terms → Standing → OpenSlip → Outcome (Result (Unit {0}) (Refused OpenSlip))
 withdrawing t s slip =
@@ -93,7 +97,7 @@ withdrawing t s slip =
 
 -- Rearm
 abbrev pub rearmed : Standing → Standing
-rearmed s = record { state = Armed; ledger = 0; rounds = s.rounds; alarms = s.alarms; row = []; play = s.play }
+rearmed s = record s { state = Armed; ledger = 0; row = [] }
 
 abbrev pub rearming : Terms → Standing → Outcome (Result (Unit {0}) MonitorFault)
 rearming t s =

@@ -6,6 +6,7 @@ pub mod Pairs
 pub mod Phases
 pub mod Plans
 pub mod Rules
+pub mod Slips
 pub mod States
 pub mod Tables
 pub mod Tallies

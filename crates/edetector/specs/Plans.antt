@@ -7,7 +7,8 @@ use Rattle.edetector.specs.declared.slip.OpenSlip.{OpenSlip}
 use Rattle.edetector.specs.declared.slip.ShownSlip.{ShownSlip}
 use Rattle.edetector.specs.declared.fault.Refused.{Refused}
 use Rattle.edetector.specs.Bettors.{Strategy}
-use Rattle.edetector.specs.Ledger.{Terms, Standing, Outcome, fresh, fitting, staking, settling, withdrawing, rearming, reading}
+use Rattle.edetector.specs.Slips.{shown_slip}
+use Rattle.edetector.specs.Ledger.{Terms, Standing, Outcome, fresh, fitting_slip, fitting, staking, settling, withdrawing, rearming, reading}
 
 -- the calls that a plan may name: Withdraw is with the slip that is out, the last two with a slip that does not fit
 pub data Call : Type 0 where
@@ -21,10 +22,6 @@ pub data Call : Type 0 where
 -- the calls made before the next settlement, for every list of classes settled so far
 abbrev pub Plan : Type 0
 Plan = List ℕ → List Call
-
--- the slip that fits
-abbrev pub fitting_slip : Terms → Standing → OpenSlip
-fitting_slip t s = record { tag = t.tag; number = s.rounds + 1 }
 
 -- what one call leaves. A plan cannot settle the slip that fits, or it would choose the counts: such a call is not made
 abbrev pub called : Terms → Standing → Call → Standing
@@ -47,7 +44,7 @@ if_staked Rung bs = []
 
 -- the fitting slip, shown the class k and settled
 abbrev pub next : Terms → Standing → ℕ → Outcome (Result Bool (Refused ShownSlip))
-next t m k = settling t m (record { tag = t.tag; number = m.rounds + 1; count = k })
+next t m k = settling t m (shown_slip (fitting_slip t m) k)
 
 -- an accepted settle answers whether it rang
 abbrev pub heard : Result Bool (Refused ShownSlip) → List Bool → List Bool

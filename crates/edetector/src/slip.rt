@@ -1,6 +1,7 @@
 // Slips: one is given for every stake, and must be settled or withdrawn. Neither kind can be let go, copied, or made
 // outside this library, and a shown one does not tell its count: so they derive nothing.
 ghost use Rattle.std.specs.Prelude.{◌≡◌};
+ghost use Rattle.edetector.specs.Slips.{shown_slip};
 
 // A stake whose count is not known yet.
 pub struct OpenSlip {
@@ -17,7 +18,7 @@ pub struct ShownSlip {
 
 impl OpenSlip {
     pub fn show(self, count: u32) -> ShownSlip
-        ensures { result ≡ record { tag = self.tag; number = self.number; count = count } }
+        ensures { result ≡ shown_slip self count }
     {
         let OpenSlip { tag, number } = self;
         ShownSlip { tag, number, count }

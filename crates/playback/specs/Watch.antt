@@ -6,6 +6,7 @@ use Rattle.edetector.specs.declared.slip.OpenSlip.{OpenSlip}
 use Rattle.edetector.specs.declared.slip.ShownSlip.{ShownSlip}
 use Rattle.edetector.specs.declared.fault.MonitorFault.{MonitorFault}
 use Rattle.edetector.specs.declared.fault.Refused.{Refused}
+use Rattle.edetector.specs.Slips.{shown_slip}
 use Rattle.edetector.specs.Ledger.{Terms, Standing, Outcome, outcome, staking, settling, rearming}
 use Rattle.playback.specs.declared.stop.ReplayFault.{ReplayFault}
 use Rattle.playback.specs.declared.stop.ReplayFault.TheVariants.{Monitor, Book, DayNotAbove, CountsDiffer}
@@ -68,7 +69,7 @@ abbrev pub settled_slip : Terms → Standing → List AlarmView → ℕ → Show
 settled_slip t s alarms day slip = let o = settling t s slip in rung o.answer day o.after alarms
 
 abbrev pub shown : Terms → List AlarmView → ℕ → ℕ → Result OpenSlip MonitorFault → Standing → Round
-shown t alarms day count (Ok slip) s = settled_slip t s alarms day (record { tag = slip.tag; number = slip.number; count = count })
+shown t alarms day count (Ok slip) s = settled_slip t s alarms day (shown_slip slip count)
 shown t alarms day count (Err f) s = round (Err (Monitor f)) s alarms
 
 -- a watched count: stake, show, settle
