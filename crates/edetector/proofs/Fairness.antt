@@ -5,6 +5,7 @@ use Rattle.edetector.specs.declared.state.State.TheVariants.{Armed, Staked, Rung
 use Rattle.edetector.specs.Tables.{Fair, class_of}
 use Rattle.edetector.specs.declared.fault.MonitorFault.TheVariants.{Misfit, Spent}
 use Rattle.edetector.specs.Rules.{bet}
+use Rattle.edetector.specs.States.{most_rounds}
 use Rattle.edetector.specs.Bettors.{Strategy}
 use Rattle.edetector.specs.Ledger.{Terms, Standing, Outcome, outcome, fitting_slip, rings, staked, settled, withdrawn}
 use Rattle.edetector.specs.View.{standing}
@@ -46,7 +47,7 @@ stray P false s x y p q = q
 in_state : (t : Terms) (st : State) (m r al : ℕ) (row : List ℕ) (play : Strategy) (c : Call) → Sound t (standing st m r al row play) → Kept t (standing st m r al row play) (called t (standing st m r al row play) c)
 in_state t Armed m r al row play Stake ok =
     let s = standing Armed m r al row play in
-    either_way (Kept t s) (ltb r 1000000) (outcome (Ok (fitting_slip t s)) (staked s)) (outcome (Err Spent) s) ((ok.0, ok.0 []), le_refl m) (ok, le_refl m)
+    either_way (Kept t s) (ltb r most_rounds) (outcome (Ok (fitting_slip t s)) (staked s)) (outcome (Err Spent) s) ((ok.0, ok.0 []), le_refl m) (ok, le_refl m)
 in_state t Staked m r al row play Stake ok = (ok, le_refl _)
 in_state t Rung m r al row play Stake ok = (ok, le_refl _)
 in_state t Armed m r al row play Withdraw ok = (ok, le_refl _)

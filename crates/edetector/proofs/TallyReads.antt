@@ -8,7 +8,7 @@ use Rattle.std.proofs.lemmas.List.{get_or-take, get_or_past, take-replicate}
 use Rattle.edetector.specs.declared.adaptive.Adaptive.{Adaptive}
 use Rattle.edetector.specs.Tables.{total}
 use Rattle.edetector.specs.Weights.{null_weights}
-use Rattle.edetector.specs.Bettors.{Strategy, learned, LearnStep, ratio, Tally, no_tally, one_more, tally_class, adaptive, plus}
+use Rattle.edetector.specs.Bettors.{Strategy, learned, LearnStep, ratio, Tally, most_tallied, no_tally, one_more, tally_class, adaptive, plus}
 use Rattle.edetector.specs.Tallies.{tally_of}
 use Rattle.edetector.specs.Held.{null_long, is_null_table}
 use Rattle.edetector.specs.Adapting.{plus_long, total_set}
@@ -24,7 +24,7 @@ step_by ws true u t = refl
 step_by ws false u t = refl
 
 pub adaptive_learns : (ws : List ℕ) (t : Tally) (k : ℕ) → ◌≡◌ {A = Strategy} (adaptive ws (tally_class ws t k)) (learned ws (adaptive ws t) k)
-adaptive_learns ws t k = step_by ws (nat_lt k (length ws)) (cond (nat_lt t.seen 1000000) (one_more t k) t) t
+adaptive_learns ws t k = step_by ws (nat_lt k (length ws)) (cond (nat_lt t.seen most_tallied) (one_more t k) t) t
 
 total_none : (n : ℕ) → total (replicate n 0) ≡ 0
 total_none zero = refl
@@ -36,24 +36,24 @@ total_zeros n h = ap total (take-replicate n 16 0 h) ∙ total_none n
 pub tally_zeros : (n m : ℕ) → n ≤ 16 → m ≡ n → ◌≡◌ {A = Tally} (record { counts = take n (replicate 16 0); seen = 0 }) (no_tally m)
 tally_zeros n m h e = let z : take n (replicate 16 0) ≡ replicate {A = ℕ} n 0 = take-replicate n 16 0 h in rw (e, z) refl
 
-pub tally_learns : (n k seen : ℕ) (ws cs : List ℕ) → length ws ≡ n → k < n → seen < 1000000 →
+pub tally_learns : (n k seen : ℕ) (ws cs : List ℕ) → length ws ≡ n → k < n → seen < most_tallied →
     ◌≡◌ {A = Tally} (record { counts = take n (slice_set cs k (slice_index cs k + 1)); seen = seen + 1 }) (tally_class ws (record { counts = take n cs; seen = seen }) k)
 tally_learns n k seen ws cs long h room =
     let below : ltb k (length ws) ≡ true = grind (arith, nat_tests) in
-    let left : ltb seen 1000000 ≡ true = grind (arith, nat_tests) in
+    let left : ltb seen most_tallied ≡ true = grind (arith, nat_tests) in
     let at : slice_index_or (take n cs) k 0 ≡ slice_index_or cs k 0 = get_or-take n cs k 0 h in
     let moved = take-set-lt n cs k (slice_index cs k + 1) h in
     rw (below, left, at, moved)
 
 -- a class learned is one more in all
-pub tally_moves : (n k seen : ℕ) (ws cs : List ℕ) → length ws ≡ n → k < n → seen < 1000000 →
+pub tally_moves : (n k seen : ℕ) (ws cs : List ℕ) → length ws ≡ n → k < n → seen < most_tallied →
     ◌≡◌ {A = Tally} (tally_class ws (record { counts = take n cs; seen = seen }) k) (record { counts = take n cs; seen = seen }) → ⊥
 tally_moves n k seen ws cs long h room e =
     let more : seen + 1 ≡ seen = ap (λ (t : Tally). t.seen) (tally_learns n k seen ws cs long h room ∙ e) in
     omega (arith, more)
 
 none_tallied : (ws : List ℕ) (t : Tally) (k : ℕ) → length ws ≤ k → ◌≡◌ {A = Tally} (tally_class ws t k) t
-none_tallied ws t k past = cond-false (nat_lt k (length ws)) (cond (nat_lt t.seen 1000000) (one_more t k) t) t (grind (arith, nat_tests))
+none_tallied ws t k past = cond-false (nat_lt k (length ws)) (cond (nat_lt t.seen most_tallied) (one_more t k) t) t (grind (arith, nat_tests))
 
 -- what the adaptive bettor promises of learning, as any bettor promises it
 module _ (b after : Adaptive) (k : ℕ) where

@@ -5,7 +5,7 @@ use Rattle.std.proofs.Math.Nat.{mul-div-le, le_of_mul-le-mul_left}
 use Rattle.std.proofs.lemmas.Bool.Decides.{nat_tests}
 use Rattle.std.proofs.lemmas.Bool.{cond_both}
 use Rattle.edetector.specs.Tables.{weigh, total, Fair}
-use Rattle.edetector.specs.Bettors.{ratios, Tally, one_more, tally_class, tally_all, plus, adaptive}
+use Rattle.edetector.specs.Bettors.{ratios, Tally, most_tallied, one_more, tally_class, tally_all, plus, adaptive}
 
 pub ratios_long : (w v : ℕ) (ws alts : List ℕ) → length alts ≡ length ws → length (ratios w v ws alts) ≡ length ws
 ratios_long w v [] alts e = refl
@@ -57,8 +57,8 @@ Adds ws t = (length t.counts ≡ length ws) × (total t.counts ≡ t.seen)
 
 pub learn_adds : (ws : List ℕ) (t : Tally) (k : ℕ) → Adds ws t → Adds ws (tally_class ws t k)
 learn_adds ws t k ok =
-    cond_both (nat_lt k (length ws)) (cond (nat_lt t.seen 1000000) (one_more t k) t) t (Adds ws)
-    (λ below. cond_both (nat_lt t.seen 1000000) (one_more t k) t (Adds ws)
+    cond_both (nat_lt k (length ws)) (cond (nat_lt t.seen most_tallied) (one_more t k) t) t (Adds ws)
+    (λ below. cond_both (nat_lt t.seen most_tallied) (one_more t k) t (Adds ws)
     (λ room. let h : k < length t.counts = grind (arith, nat_tests) in (length-set t.counts k (slice_index t.counts k + 1) ∙ ok.0, total_set t.counts k h ∙ ap (λ n. n + 1) ok.1)) (λ full. ok))
     (λ past. ok)
 

@@ -44,9 +44,12 @@ no_tally classes = record { counts = replicate classes 0; seen = 0 }
 abbrev pub one_more : Tally → ℕ → Tally
 one_more t k = record { counts = slice_set t.counts k (slice_index t.counts k + 1); seen = t.seen + 1 }
 
--- a tally of 1,000,000 classes stays as it is
+-- a tally of so many classes stays as it is
+abbrev pub most_tallied : ℕ
+most_tallied = 1000000
+
 abbrev pub tally_class : List ℕ → Tally → ℕ → Tally
-tally_class ws t k = cond (nat_lt k (length ws)) (cond (nat_lt t.seen 1000000) (one_more t k) t) t
+tally_class ws t k = cond (nat_lt k (length ws)) (cond (nat_lt t.seen most_tallied) (one_more t k) t) t
 
 abbrev pub tally_all : List ℕ → Tally → List ℕ → Tally
 tally_all ws t [] = t

@@ -9,6 +9,7 @@ use Rattle.edetector.specs.declared.fault.MonitorFault.TheVariants.{NotArmed, Sp
 use Rattle.edetector.specs.declared.fault.Refused.{Refused}
 use Rattle.edetector.specs.Tables.{class_of}
 use Rattle.edetector.specs.Rules.{bet}
+use Rattle.edetector.specs.States.{most_rounds}
 use Rattle.edetector.specs.Bettors.{Strategy, after_class}
 
 -- what a monitor is made of, besides its bettor's strategy
@@ -49,7 +50,7 @@ staked s = record s { state = Staked; row = s.play [] }
 abbrev pub staking : Terms → Standing → Outcome (Result OpenSlip MonitorFault)
 staking t s =
     elim s.state [
-      | Armed ↦ cond (nat_lt s.rounds 1000000) (outcome (Ok (fitting_slip t s)) (staked s)) (outcome (Err Spent) s)
+      | Armed ↦ cond (nat_lt s.rounds most_rounds) (outcome (Ok (fitting_slip t s)) (staked s)) (outcome (Err Spent) s)
       | Staked ↦ outcome (Err NotArmed) s
       | Rung ↦ outcome (Err NotArmed) s
     ]

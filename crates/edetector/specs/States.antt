@@ -9,8 +9,12 @@ level Armed cap ledger = nat_lt ledger cap
 level Staked cap ledger = nat_lt ledger cap
 level Rung cap ledger = nat_le cap ledger
 
+-- a monitor stakes so many rounds at most
+abbrev pub most_rounds : ℕ
+most_rounds = 1000000
+
 -- a staked monitor has a round left
 abbrev pub lasts : State → ℕ → Bool
-lasts Armed rounds = nat_le rounds 1000000
-lasts Staked rounds = nat_lt rounds 1000000
-lasts Rung rounds = nat_le rounds 1000000
+lasts Armed rounds = nat_le rounds most_rounds
+lasts Staked rounds = nat_lt rounds most_rounds
+lasts Rung rounds = nat_le rounds most_rounds

@@ -1,6 +1,7 @@
 // The adaptive bettor: its alternative is the null table with what it has learned added, up to a million classes.
 ghost use Rattle.std.specs.Prelude.{◌≡◌, ◌≤◌, length, take};
 ghost use Rattle.edetector.specs.Tables.{total};
+ghost use Rattle.edetector.specs.Bettors.{most_tallied};
 
 use super::table::NullTable;
 
@@ -15,5 +16,5 @@ pub struct Adaptive {
     pub(super) seen: u32,
     ghost room: { length counts ≡ 16 },
     ghost tallies: { total (take null.classes counts) ≡ seen },
-    ghost capped: { seen ≤ 1000000 },
+    ghost capped: { seen ≤ most_tallied },
 }
