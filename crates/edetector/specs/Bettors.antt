@@ -1,7 +1,7 @@
 -- What bettors play: a strategy names a row of factors for every list of classes that may yet be learned.
--- A factor of 4,096 leaves a bet as it is. Every division drops its remainder.
+-- Every division drops its remainder.
 use Rattle.std.specs.Prelude.{◌≡◌, ℕ, ◌+◌, ◌*◌, ◌/◌, Bool, true, false, cond, ◌&&◌, List, [], ◌∷◌, length, replicate, ◌==◌, nat_lt, slice_index, slice_set}
-use Rattle.edetector.specs.Tables.{total}
+use Rattle.edetector.specs.Tables.{total, par}
 
 -- the row for the empty list is the row now
 abbrev pub Strategy : Type 0
@@ -21,7 +21,7 @@ LearnStep nulls strategy k before after = (nulls after ≡ nulls before) × (str
 
 -- the likelihood ratio (a / v) : (w / whole) of a class with alternative weight a out of v and null weight w out of whole
 abbrev pub ratio : ℕ → ℕ → ℕ → ℕ → ℕ
-ratio whole v w a = (4096 * a * whole) / (v * w)
+ratio whole v w a = (par * a * whole) / (v * w)
 
 -- the likelihood ratios of all classes: null weights of total whole, against alternative weights of total v
 abbrev pub ratios : ℕ → ℕ → List ℕ → List ℕ → List ℕ

@@ -7,7 +7,7 @@ use Rattle.edetector.specs.declared.slip.ShownSlip.{ShownSlip}
 use Rattle.edetector.specs.declared.fault.MonitorFault.{MonitorFault}
 use Rattle.edetector.specs.declared.fault.MonitorFault.TheVariants.{NotArmed, Spent, Misfit}
 use Rattle.edetector.specs.declared.fault.Refused.{Refused}
-use Rattle.edetector.specs.Tables.{class_of}
+use Rattle.edetector.specs.Tables.{class_of, par}
 use Rattle.edetector.specs.Rules.{bet}
 use Rattle.edetector.specs.States.{most_rounds}
 use Rattle.edetector.specs.Bettors.{Strategy, after_class}
@@ -64,9 +64,9 @@ while_staked Rung b = false
 abbrev pub fitting : Terms → Standing → ℕ → ℕ → Bool
 fitting t s tag number = while_staked s.state (tag == t.tag && number == s.rounds + 1)
 
--- the ledger after class k: the base of the ledger times the staked row's factor, in parts of 4,096
+-- the ledger after class k: the base of the ledger times the staked row's factor
 abbrev pub grown : Terms → Standing → ℕ → ℕ
-grown t s k = (t.base s.ledger * slice_index s.row k) / 4096
+grown t s k = (t.base s.ledger * slice_index s.row k) / par
 
 -- the alarm rings when the ledger has come to A bets
 abbrev pub rings : Terms → Standing → ℕ → Bool

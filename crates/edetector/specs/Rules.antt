@@ -1,13 +1,17 @@
 -- The base of a round under the named restart rules.
-use Rattle.std.specs.Prelude.{ℕ, ◌+◌, max, cond, nat_lt}
+use Rattle.std.specs.Prelude.{ℕ, ◌+◌, ◌^◌, max, cond, nat_lt}
 
 -- one bet, in parts
 abbrev pub bet : ℕ
 bet = 1048576
 
--- above 2^32 no bet is begun
+-- the most parts of a wealth
+abbrev pub most_parts : ℕ
+most_parts = 2 ^ 49
+
+-- above 2^32 parts no bet is begun
 abbrev pub capped : ℕ → ℕ → ℕ
-capped m begun = cond (nat_lt 4294967296 m) m begun
+capped m begun = cond (nat_lt (2 ^ 32) m) m begun
 
 -- the Shiryaev–Roberts rule adds a bet
 abbrev pub shiryaev_roberts : ℕ → ℕ

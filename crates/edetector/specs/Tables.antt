@@ -48,6 +48,10 @@ abbrev pub weigh : List ℕ → ℕ → (ℕ → ℕ) → ℕ
 weigh [] i f = 0
 weigh (w ∷ ws) i f = w * f i + weigh ws (suc i) f
 
--- a row is fair against a table: the sum of all w_k × e_k is at most 4,096 × the total weight
+-- the factor that leaves a bet as it is: factors are in parts of it
+abbrev pub par : ℕ
+par = 4096
+
+-- a row is fair against a table: the sum of all w_k × e_k is at most par × the total weight
 abbrev pub Fair : List ℕ → List ℕ → Type 0
-Fair ws row = weigh ws 0 (λ k. slice_index row k) ≤ 4096 * total ws
+Fair ws row = weigh ws 0 (λ k. slice_index row k) ≤ par * total ws

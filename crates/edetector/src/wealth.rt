@@ -1,5 +1,6 @@
 // A wealth, in parts of a bet: from 0 to 2^49.
 ghost use Rattle.std.specs.Prelude.{◌≡◌, ◌<◌, ◌≤◌, MatchOption};
+ghost use Rattle.edetector.specs.Rules.{most_parts};
 
 // One bet, in parts.
 pub const BET: u64 = 1048576;
@@ -10,13 +11,13 @@ const MOST_PARTS: u64 = 562949953421312;
 #[derive(Clone, Copy, Debug, PartialEq, Eq)]
 pub struct Wealth {
     pub(super) parts: u64,
-    ghost within: { parts ≤ 562949953421312 },
+    ghost within: { parts ≤ most_parts },
 }
 
 impl Wealth {
     // The wealth of so many parts, if there can be one.
     pub fn new(parts: u64) -> Option<Wealth>
-        ensures { MatchOption result (562949953421312 < parts) (λ w. w.parts ≡ parts) }
+        ensures { MatchOption result (most_parts < parts) (λ w. w.parts ≡ parts) }
     {
         if parts <= MOST_PARTS {
             Some(Wealth { parts })

@@ -3,7 +3,7 @@ use Rattle.std.specs.Prelude.{◌≡◌, ℕ, ◌+◌, ◌-◌, ◌*◌, ◌/◌
 use Rattle.edetector.specs.declared.state.State.{State}
 use Rattle.edetector.specs.declared.state.State.TheVariants.{Armed, Staked, Rung}
 use Rattle.edetector.specs.Rules.{bet}
-use Rattle.edetector.specs.Tables.{class_of}
+use Rattle.edetector.specs.Tables.{class_of, par}
 use Rattle.edetector.specs.Ledger.{Terms, Standing, staking, rearming}
 use Rattle.edetector.specs.Plans.{next}
 use Rattle.edetector.specs.declared.fault.MonitorFault.TheVariants.{NotArmed, Spent}
@@ -83,7 +83,7 @@ free_after t s free e = record { alarms = free.alarms - length (alarm_of t s e);
 
 -- the ledger of a round by the restart rule's recursion: the base of the ledger times the factor of the row now
 abbrev pub recursion : Terms → Standing → ℕ → ℕ
-recursion t s count = (t.base s.ledger * slice_index (s.play []) (class_of (length t.nulls) count)) / 4096
+recursion t s count = (t.base s.ledger * slice_index (s.play []) (class_of (length t.nulls) count)) / par
 
 -- a count is settled while the monitor is armed and has rounds left, by the recursion, and passed over while it rings;
 -- the book that it may need has a free place. A rearm is taken unless a bet is staked
