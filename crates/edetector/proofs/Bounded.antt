@@ -1,5 +1,5 @@
 -- The bound: A × weighted alarms ≤ weighted settled rounds.
-use Rattle.std.proofs.Common.{◌≡◌, ℕ, zero, suc, ◌+◌, ◌*◌, ◌≤◌, Bool, true, false, cond, ◌&&◌, eqb, leb, List, [], ◌∷◌, ◌++◌, length, Ok, Err, Result, sym, refl, ap, ◌∙◌, ap₂, mul_assoc, mul_comm, mul-le-mul_left, one-mul, mul-zero, mul-add, arith}
+use Rattle.std.proofs.Common.{◌≡◌, ℕ, zero, suc, ◌+◌, ◌*◌, ◌≤◌, Bool, true, false, cond, if◌then◌else◌, ◌&&◌, eqb, leb, List, [], ◌∷◌, ◌++◌, length, Ok, Err, Result, sym, refl, ap, ◌∙◌, ap₂, mul_assoc, mul_comm, mul-le-mul_left, one-mul, mul-zero, mul-add, arith}
 use native.Mathlib.Nat.{le_of_mul-le-mul_left}
 use Rattle.std.proofs.lemmas.Bool.Decides.{nat_tests}
 use Rattle.edetector.specs.declared.state.State.{State}
@@ -11,8 +11,9 @@ use Rattle.edetector.specs.Tables.{weigh, total, Fair, class_of}
 use Rattle.edetector.specs.Rules.{bet}
 use Rattle.edetector.specs.Bettors.{Strategy}
 use Rattle.edetector.specs.Slips.{shown_slip}
-use Rattle.edetector.specs.Ledger.{Terms, Standing, Outcome, outcome, fresh, fitting_slip, settled, rings, grown, while_staked}
-use Rattle.edetector.specs.Plans.{Plan, run, all_called, if_staked, next, heard, rounds_in, alarms_in, Bound}
+use Rattle.edetector.specs.States.{is_staked}
+use Rattle.edetector.specs.Ledger.{Terms, Standing, Outcome, outcome, fresh, fitting_slip, settled, rings, grown}
+use Rattle.edetector.specs.Plans.{Plan, run, all_called, next, heard, rounds_in, alarms_in, Bound}
 use Rattle.edetector.specs.Sums.{weigh_mono, weigh_add, weigh_scale}
 use Rattle.edetector.proofs.Weighing.{weigh_same, weigh_within, weigh_const, fair_step}
 use Rattle.edetector.proofs.Sequences.{over_all, weighted_is, mass, mass_more, over_none, over_plus}
@@ -100,11 +101,11 @@ module _ (t : Terms) (p : Plan) (lawful : (m : ℕ) → t.base m ≤ m + bet) wh
       let tags : eqb t.tag t.tag ≡ true = grind (arith, nat_tests) in
       let numbers : eqb (m.rounds + 1) (m.rounds + 1) ≡ true = grind (arith, nat_tests) in
       let slip = shown_slip (fitting_slip t m) k in
-      ap (λ b. cond b (accepted m k) (outcome (Err (record { fault = Misfit; slip = slip })) m)) (ap₂ while_staked e (ap₂ (λ x y. x && y) tags numbers))
+      ap (λ b. cond b (accepted m k) (outcome (Err (record { fault = Misfit; slip = slip })) m)) (ap₂ (λ s b. is_staked s && b) e (ap₂ (λ x y. x && y) tags numbers))
 
   by_state : (h : ℕ) (m : Standing) (past : List ℕ) (st : State) → m.state ≡ st → row_fair t.nulls st m.row → ((k : ℕ) → Holds h (settled t m (class_of (length t.nulls) k)) (past ++ (k ∷ []))) →
-      (t.threshold * bet) * weigh t.nulls 0 (λ k. over_all t.nulls h (λ ks. alarms_in (if_staked st (heard (next t m k).answer (run t p (next t m k).after (past ++ (k ∷ [])) ks)))))
-      ≤ bet * weigh t.nulls 0 (λ k. over_all t.nulls h (λ ks. rounds_in (if_staked st (heard (next t m k).answer (run t p (next t m k).after (past ++ (k ∷ [])) ks)))))
+      (t.threshold * bet) * weigh t.nulls 0 (λ k. over_all t.nulls h (λ ks. alarms_in (if is_staked st then heard (next t m k).answer (run t p (next t m k).after (past ++ (k ∷ [])) ks) else [])))
+      ≤ bet * weigh t.nulls 0 (λ k. over_all t.nulls h (λ ks. rounds_in (if is_staked st then heard (next t m k).answer (run t p (next t m k).after (past ++ (k ∷ [])) ks) else [])))
       + mass t.nulls (suc h) * potential_at (t.threshold * bet) st m.ledger
   by_state h m past Armed e fair ih = rw (over_none t.nulls (suc h), mul-zero) (omega arith)
   by_state h m past Staked e fair ih =

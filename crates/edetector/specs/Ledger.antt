@@ -1,5 +1,5 @@
 -- A monitor on plain data: where it stands, and what each of the five calls answers and leaves.
-use Rattle.std.specs.Prelude.{ℕ, ◌+◌, ◌*◌, ◌/◌, Bool, false, cond, ◌&&◌, List, [], length, Ok, Err, Result, ◌==◌, nat_le, nat_lt, slice_index}
+use Rattle.std.specs.Prelude.{ℕ, ◌+◌, ◌*◌, ◌/◌, Bool, cond, if◌then◌else◌, ◌&&◌, List, [], length, Ok, Err, Result, ◌==◌, nat_le, nat_lt, slice_index}
 use Rattle.edetector.specs.declared.state.State.{State}
 use Rattle.edetector.specs.declared.state.State.TheVariants.{Armed, Staked, Rung}
 use Rattle.edetector.specs.declared.slip.OpenSlip.{OpenSlip}
@@ -9,7 +9,7 @@ use Rattle.edetector.specs.declared.fault.MonitorFault.TheVariants.{NotArmed, Sp
 use Rattle.edetector.specs.declared.fault.Refused.{Refused}
 use Rattle.edetector.specs.Tables.{class_of, par}
 use Rattle.edetector.specs.Rules.{bet}
-use Rattle.edetector.specs.States.{most_rounds}
+use Rattle.edetector.specs.States.{is_armed, is_staked, most_rounds}
 use Rattle.edetector.specs.Bettors.{Strategy, after_class}
 
 -- what a monitor is made of, besides its bettor's strategy
@@ -49,20 +49,12 @@ staked s = record s { state = Staked; row = s.play [] }
 
 abbrev pub staking : Terms → Standing → Outcome (Result OpenSlip MonitorFault)
 staking t s =
-    elim s.state [
-      | Armed ↦ cond (nat_lt s.rounds most_rounds) (outcome (Ok (fitting_slip t s)) (staked s)) (outcome (Err Spent) s)
-      | Staked ↦ outcome (Err NotArmed) s
-      | Rung ↦ outcome (Err NotArmed) s
-    ]
-
-abbrev pub while_staked : State → Bool → Bool
-while_staked Armed b = false
-while_staked Staked b = b
-while_staked Rung b = false
+    if is_armed s.state then (if nat_lt s.rounds most_rounds then outcome (Ok (fitting_slip t s)) (staked s) else outcome (Err Spent) s)
+    else outcome (Err NotArmed) s
 
 -- a slip fits when the monitor is staked and both tag and number agree
 abbrev pub fitting : Terms → Standing → ℕ → ℕ → Bool
-fitting t s tag number = while_staked s.state (tag == t.tag && number == s.rounds + 1)
+fitting t s tag number = is_staked s.state && (tag == t.tag && number == s.rounds + 1)
 
 -- the ledger after class k: the base of the ledger times the staked row's factor
 abbrev pub grown : Terms → Standing → ℕ → ℕ
@@ -101,12 +93,7 @@ abbrev pub rearmed : Standing → Standing
 rearmed s = record s { state = Armed; ledger = 0; row = [] }
 
 abbrev pub rearming : Terms → Standing → Outcome (Result (Unit {0}) MonitorFault)
-rearming t s =
-    elim s.state [
-      | Armed ↦ outcome (Ok tt) (rearmed s)
-      | Staked ↦ outcome (Err NotArmed) s
-      | Rung ↦ outcome (Ok tt) (rearmed s)
-    ]
+rearming t s = if is_staked s.state then outcome (Err NotArmed) s else outcome (Ok tt) (rearmed s)
 
 -- Read
 pub record Told : Type 0 where

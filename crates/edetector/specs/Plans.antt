@@ -1,11 +1,10 @@
 -- Plans of calls, their runs, and the bound on alarms over every sequence that a sound line could send.
-use Rattle.std.specs.Prelude.{ℕ, zero, suc, ◌+◌, ◌*◌, ◌≤◌, Bool, cond, List, [], ◌∷◌, ◌++◌, map, length, Ok, Err, Result, slice_index}
+use Rattle.std.specs.Prelude.{ℕ, zero, suc, ◌+◌, ◌*◌, ◌≤◌, Bool, cond, if◌then◌else◌, List, [], ◌∷◌, ◌++◌, map, length, Ok, Err, Result, slice_index}
 use Rattle.std.specs.List.{flat_map}
-use Rattle.edetector.specs.declared.state.State.{State}
-use Rattle.edetector.specs.declared.state.State.TheVariants.{Armed, Staked, Rung}
 use Rattle.edetector.specs.declared.slip.OpenSlip.{OpenSlip}
 use Rattle.edetector.specs.declared.slip.ShownSlip.{ShownSlip}
 use Rattle.edetector.specs.declared.fault.Refused.{Refused}
+use Rattle.edetector.specs.States.{is_staked}
 use Rattle.edetector.specs.Bettors.{Strategy}
 use Rattle.edetector.specs.Slips.{shown_slip}
 use Rattle.edetector.specs.Ledger.{Terms, Standing, Outcome, fresh, fitting_slip, fitting, staking, settling, withdrawing, rearming, reading}
@@ -36,12 +35,6 @@ abbrev pub all_called : Terms → Standing → List Call → Standing
 all_called t s [] = s
 all_called t s (c ∷ cs) = all_called t (called t s c) cs
 
--- a run goes on only from a staked monitor
-abbrev pub if_staked : State → List Bool → List Bool
-if_staked Armed bs = []
-if_staked Staked bs = bs
-if_staked Rung bs = []
-
 -- the fitting slip, shown the class k and settled
 abbrev pub next : Terms → Standing → ℕ → Outcome (Result Bool (Refused ShownSlip))
 next t m k = settling t m (shown_slip (fitting_slip t m) k)
@@ -51,12 +44,13 @@ abbrev pub heard : Result Bool (Refused ShownSlip) → List Bool → List Bool
 heard (Ok b) bs = b ∷ bs
 heard (Err e) bs = bs
 
--- the answers of the settles accepted in the run of a plan on a sequence of classes, in order
+-- the answers of the settles accepted in the run of a plan on a sequence of classes, in order. A run goes on only while a
+-- slip is out
 abbrev pub run : Terms → Plan → Standing → List ℕ → List ℕ → List Bool
 run t p s past [] = []
 run t p s past (k ∷ ks) =
     let m = all_called t s (p past) in
-    if_staked m.state (heard (next t m k).answer (run t p (next t m k).after (past ++ (k ∷ [])) ks))
+    if is_staked m.state then heard (next t m k).answer (run t p (next t m k).after (past ++ (k ∷ [])) ks) else []
 
 -- settled rounds, and the alarms among them
 abbrev pub rounds_in : List Bool → ℕ

@@ -1,7 +1,17 @@
 -- What holds of a monitor in each state.
-use Rattle.std.specs.Prelude.{ℕ, Bool, nat_le, nat_lt}
+use Rattle.std.specs.Prelude.{ℕ, Bool, true, false, nat_le, nat_lt}
 use Rattle.edetector.specs.declared.state.State.{State}
 use Rattle.edetector.specs.declared.state.State.TheVariants.{Armed, Staked, Rung}
+
+abbrev pub is_armed : State → Bool
+is_armed Armed = true
+is_armed Staked = false
+is_armed Rung = false
+
+abbrev pub is_staked : State → Bool
+is_staked Armed = false
+is_staked Staked = true
+is_staked Rung = false
 
 -- the ledger is at the cap or above exactly if the monitor is rung
 abbrev pub level : State → ℕ → ℕ → Bool
