@@ -1,5 +1,5 @@
 -- When a table breaks which limit.
-use Rattle.std.specs.Prelude.{◌≡◌, ℕ, zero, suc, ◌<◌, ◌≤◌, Bool, true, false, cond, ◌⊎◌, List, [], ◌∷◌, length, Some, None, slice_index, refl}
+use Rattle.std.specs.Prelude.{◌≡◌, ℕ, zero, suc, ◌<◌, ◌≤◌, Bool, true, false, cond, not, ◌⊎◌, List, [], ◌∷◌, length, Some, None, slice_index, refl}
 use Rattle.std.proofs.Common.{inl, inr, le_of_suc-le-suc, not-suc-le-zero, arith}
 use Rattle.std.proofs.lemmas.Bool.Decides.{nat_tests}
 use Rattle.std.proofs.lemmas.Bool.{and_parts, and_from, and_left, and_right, leb-true}
@@ -57,7 +57,7 @@ module _ (low : ℕ) (ws : List ℕ) where
         rw (a, b, d) refl
 
   -- what an unbroken table keeps
-  by_tests : (a b d : Bool) → cond a (cond b (cond d None (Some Total)) (Some Weight)) (Some Classes) ≡ None → b ≡ true
+  by_tests : (a b d : Bool) → cond (not a) (Some Classes) (cond (not b) (Some Weight) (cond (not d) (Some Total) None)) ≡ None → b ≡ true
   by_tests true true d e = refl
   by_tests true false d e = cc
   by_tests false b d e = cc

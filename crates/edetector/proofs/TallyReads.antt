@@ -1,7 +1,7 @@
 -- The adaptive bettor: what its own facts give at a class, and what one class learned does.
-use Rattle.std.specs.Prelude.{◌≡◌, ℕ, zero, suc, ◌+◌, ◌*◌, ◌/◌, ◌<◌, ◌≤◌, Bool, true, false, cond, ltb, List, [], length, take, set, replicate, nat_lt, slice_index, slice_index_or, slice_set, refl}
+use Rattle.std.specs.Prelude.{◌≡◌, ℕ, zero, suc, ◌+◌, ◌*◌, ◌/◌, ◌<◌, ◌≤◌, Bool, true, false, cond, ◌&&◌, ltb, List, [], length, take, set, replicate, nat_lt, slice_index, slice_index_or, slice_set, refl}
 use Rattle.std.proofs.Common.{sym, ap, ap₂, ◌∙◌, arith}
-use Rattle.std.proofs.lemmas.Bool.{cond-false}
+use Rattle.std.proofs.lemmas.Bool.{and_left, cond-false}
 use Rattle.std.proofs.lemmas.Bool.Decides.{nat_tests}
 use Rattle.std.proofs.Math.Seq.{take-set-lt}
 use Rattle.std.proofs.lemmas.List.{get_or-take, get_or_past, take-replicate}
@@ -18,13 +18,13 @@ use Rattle.edetector.proofs.Reading.{weight_read}
 use Rattle.edetector.proofs.RatiosAt.{ratios_at, plus_at}
 
 -- one class learned is one step of the strategy
-step_by : (ws : List ℕ) (b : Bool) (u t : Tally) →
-    ◌≡◌ {A = Strategy} (adaptive ws (cond b u t)) (cond b (λ later. adaptive ws (cond b u t) later) (adaptive ws t))
-step_by ws true u t = refl
-step_by ws false u t = refl
+step_by : (ws : List ℕ) (p q : Bool) (u t : Tally) →
+    ◌≡◌ {A = Strategy} (adaptive ws (cond (p && q) u t)) (cond p (λ later. adaptive ws (cond (p && q) u t) later) (adaptive ws t))
+step_by ws true q u t = refl
+step_by ws false q u t = refl
 
 pub adaptive_learns : (ws : List ℕ) (t : Tally) (k : ℕ) → ◌≡◌ {A = Strategy} (adaptive ws (tally_class ws t k)) (learned ws (adaptive ws t) k)
-adaptive_learns ws t k = step_by ws (nat_lt k (length ws)) (cond (nat_lt t.seen most_tallied) (one_more t k) t) t
+adaptive_learns ws t k = step_by ws (nat_lt k (length ws)) (nat_lt t.seen most_tallied) (one_more t k) t
 
 total_none : (n : ℕ) → total (replicate n 0) ≡ 0
 total_none zero = refl
@@ -53,7 +53,7 @@ tally_moves n k seen ws cs long h room e =
     omega (arith, more)
 
 none_tallied : (ws : List ℕ) (t : Tally) (k : ℕ) → length ws ≤ k → ◌≡◌ {A = Tally} (tally_class ws t k) t
-none_tallied ws t k past = cond-false (nat_lt k (length ws)) (cond (nat_lt t.seen most_tallied) (one_more t k) t) t (grind (arith, nat_tests))
+none_tallied ws t k past = cond-false (nat_lt k (length ws) && nat_lt t.seen most_tallied) (one_more t k) t (and_left (nat_lt k (length ws)) (nat_lt t.seen most_tallied) (grind (arith, nat_tests)))
 
 -- what the adaptive bettor promises of learning, as any bettor promises it
 module _ (b after : Adaptive) (k : ℕ) where

@@ -1,9 +1,9 @@
 -- The rows of likelihood ratios are whole and fair, those of an adaptive bettor too.
-use Rattle.std.specs.Prelude.{◌≡◌, ℕ, zero, suc, ◌+◌, ◌*◌, ◌/◌, ◌<◌, ◌≤◌, cond, List, [], ◌∷◌, length, nat_lt, slice_index, slice_set, refl}
+use Rattle.std.specs.Prelude.{◌≡◌, ℕ, zero, suc, ◌+◌, ◌*◌, ◌/◌, ◌<◌, ◌≤◌, ◌&&◌, List, [], ◌∷◌, length, nat_lt, slice_index, slice_set, refl}
 use Rattle.std.proofs.Common.{sym, ap, ◌∙◌, mul-le-mul_left, mul-add, mul_assoc, mul_comm, mul_left_comm, mul-zero, add-zero, le_of_suc-le-suc, not-suc-le-zero, arith, length-set}
 use Rattle.std.proofs.Math.Nat.{mul-div-le, le_of_mul-le-mul_left}
 use Rattle.std.proofs.lemmas.Bool.Decides.{nat_tests}
-use Rattle.std.proofs.lemmas.Bool.{cond_both}
+use Rattle.std.proofs.lemmas.Bool.{and_parts, cond_both}
 use Rattle.edetector.specs.Tables.{weigh, total, Fair}
 use Rattle.edetector.specs.Bettors.{ratios, Tally, most_tallied, one_more, tally_class, tally_all, plus, adaptive}
 
@@ -57,10 +57,12 @@ Adds ws t = (length t.counts ≡ length ws) × (total t.counts ≡ t.seen)
 
 pub learn_adds : (ws : List ℕ) (t : Tally) (k : ℕ) → Adds ws t → Adds ws (tally_class ws t k)
 learn_adds ws t k ok =
-    cond_both (nat_lt k (length ws)) (cond (nat_lt t.seen most_tallied) (one_more t k) t) t (Adds ws)
-    (λ below. cond_both (nat_lt t.seen most_tallied) (one_more t k) t (Adds ws)
-    (λ room. let h : k < length t.counts = grind (arith, nat_tests) in (length-set t.counts k (slice_index t.counts k + 1) ∙ ok.0, total_set t.counts k h ∙ ap (λ n. n + 1) ok.1)) (λ full. ok))
-    (λ past. ok)
+    cond_both (nat_lt k (length ws) && nat_lt t.seen most_tallied) (one_more t k) t (Adds ws)
+    (λ learned.
+    let below = (and_parts (nat_lt k (length ws)) (nat_lt t.seen most_tallied) learned).0 in
+    let h : k < length t.counts = grind (arith, nat_tests) in
+    (length-set t.counts k (slice_index t.counts k + 1) ∙ ok.0, total_set t.counts k h ∙ ap (λ n. n + 1) ok.1))
+    (λ none. ok)
 
 tally_all_adds : (ws : List ℕ) (t : Tally) (later : List ℕ) → Adds ws t → Adds ws (tally_all ws t later)
 tally_all_adds ws t [] ok = ok

@@ -1,6 +1,6 @@
 -- What bettors play: a strategy names a row of factors for every list of classes that may yet be learned.
 -- Every division drops its remainder.
-use Rattle.std.specs.Prelude.{◌≡◌, ℕ, ◌+◌, ◌*◌, ◌/◌, Bool, true, false, cond, ◌&&◌, List, [], ◌∷◌, length, replicate, ◌==◌, nat_lt, slice_index, slice_set}
+use Rattle.std.specs.Prelude.{◌≡◌, ℕ, ◌+◌, ◌*◌, ◌/◌, Bool, true, false, if◌then◌else◌, ◌&&◌, List, [], ◌∷◌, length, replicate, ◌==◌, nat_lt, slice_index, slice_set}
 use Rattle.edetector.specs.Tables.{total, par}
 
 -- the row for the empty list is the row now
@@ -13,7 +13,7 @@ after_class play k = λ later. play (k ∷ later)
 
 -- the strategy once k is learned, which may be no class of the table ws: then nothing is learned
 abbrev pub learned : List ℕ → Strategy → ℕ → Strategy
-learned ws play k = cond (nat_lt k (length ws)) (after_class play k) play
+learned ws play k = if nat_lt k (length ws) then after_class play k else play
 
 -- a bettor before and after it learns k: its table stays, and its strategy goes on
 abbrev pub LearnStep : {B : Type 0} → (B → List ℕ) → (B → Strategy) → ℕ → B → B → Type 0
@@ -49,7 +49,7 @@ abbrev pub most_tallied : ℕ
 most_tallied = 1000000
 
 abbrev pub tally_class : List ℕ → Tally → ℕ → Tally
-tally_class ws t k = cond (nat_lt k (length ws)) (cond (nat_lt t.seen most_tallied) (one_more t k) t) t
+tally_class ws t k = if nat_lt k (length ws) && nat_lt t.seen most_tallied then one_more t k else t
 
 abbrev pub tally_all : List ℕ → Tally → List ℕ → Tally
 tally_all ws t [] = t
@@ -84,7 +84,7 @@ averages (f ∷ fs) (g ∷ gs) = ((f + g) / 2) ∷ averages fs gs
 
 -- the row of a mixture of two bettors with the null tables ws and vs; where these differ it is the first's
 abbrev pub mixed : List ℕ → List ℕ → List ℕ → List ℕ → List ℕ
-mixed ws vs f g = cond (same_table ws vs) (averages f g) f
+mixed ws vs f g = if same_table ws vs then averages f g else f
 
 abbrev pub mixture : List ℕ → List ℕ → Strategy → Strategy → Strategy
 mixture ws vs first second later = mixed ws vs (first later) (second later)

@@ -1,5 +1,5 @@
 -- A monitor on plain data: where it stands, and what each of the five calls answers and leaves.
-use Rattle.std.specs.Prelude.{ℕ, ◌+◌, ◌*◌, ◌/◌, Bool, cond, if◌then◌else◌, ◌&&◌, List, [], length, Ok, Err, Result, ◌==◌, nat_le, nat_lt, slice_index}
+use Rattle.std.specs.Prelude.{ℕ, ◌+◌, ◌*◌, ◌/◌, Bool, if◌then◌else◌, ◌&&◌, List, [], length, Ok, Err, Result, ◌==◌, nat_le, nat_lt, slice_index}
 use Rattle.edetector.specs.declared.state.State.{State}
 use Rattle.edetector.specs.declared.state.State.TheVariants.{Armed, Staked, Rung}
 use Rattle.edetector.specs.declared.slip.OpenSlip.{OpenSlip}
@@ -56,6 +56,10 @@ staking t s =
 abbrev pub fitting : Terms → Standing → ℕ → ℕ → Bool
 fitting t s tag number = is_staked s.state && (tag == t.tag && number == s.rounds + 1)
 
+-- a slip that does not fit is handed back
+abbrev pub misfit : {X S : Type 0} → Standing → S → Outcome (Result X (Refused S))
+misfit s slip = outcome (Err (record { fault = Misfit; slip = slip })) s
+
 -- the ledger after class k: the base of the ledger times the staked row's factor
 abbrev pub grown : Terms → Standing → ℕ → ℕ
 grown t s k = (t.base s.ledger * slice_index s.row k) / par
@@ -67,10 +71,10 @@ rings t s k = nat_le (t.threshold * bet) (grown t s k)
 -- Settle with class k: the bettor learns it
 abbrev pub settled : Terms → Standing → ℕ → Standing
 settled t s k = record {
-  state = cond (rings t s k) Rung Armed;
+  state = if rings t s k then Rung else Armed;
   ledger = grown t s k;
   rounds = s.rounds + 1;
-  alarms = cond (rings t s k) (s.alarms + 1) s.alarms;
+  alarms = if rings t s k then s.alarms + 1 else s.alarms;
   row = [];
   play = after_class s.play k;
 }
@@ -78,7 +82,7 @@ settled t s k = record {
 abbrev pub settling : Terms → Standing → ShownSlip → Outcome (Result Bool (Refused ShownSlip))
 settling t s slip =
     let k = class_of (length t.nulls) slip.count in
-    cond (fitting t s slip.tag slip.number) (outcome (Ok (rings t s k)) (settled t s k)) (outcome (Err (record { fault = Misfit; slip = slip })) s)
+    if fitting t s slip.tag slip.number then outcome (Ok (rings t s k)) (settled t s k) else misfit s slip
 
 -- Withdraw
 abbrev pub withdrawn : Standing → Standing
@@ -86,7 +90,7 @@ withdrawn s = record s { state = Armed; row = [] }
 
 abbrev pub withdrawing : Terms → Standing → OpenSlip → Outcome (Result (Unit {0}) (Refused OpenSlip))
 withdrawing t s slip =
-    cond (fitting t s slip.tag slip.number) (outcome (Ok tt) (withdrawn s)) (outcome (Err (record { fault = Misfit; slip = slip })) s)
+    if fitting t s slip.tag slip.number then outcome (Ok tt) (withdrawn s) else misfit s slip
 
 -- Rearm
 abbrev pub rearmed : Standing → Standing

@@ -1,5 +1,5 @@
 -- Plans of calls, their runs, and the bound on alarms over every sequence that a sound line could send.
-use Rattle.std.specs.Prelude.{ℕ, zero, suc, ◌+◌, ◌*◌, ◌≤◌, Bool, cond, if◌then◌else◌, List, [], ◌∷◌, ◌++◌, map, length, Ok, Err, Result, slice_index}
+use Rattle.std.specs.Prelude.{ℕ, zero, suc, ◌+◌, ◌*◌, ◌≤◌, Bool, if◌then◌else◌, List, [], ◌∷◌, ◌++◌, map, length, Ok, Err, Result, slice_index}
 use Rattle.std.specs.List.{flat_map}
 use Rattle.edetector.specs.declared.slip.OpenSlip.{OpenSlip}
 use Rattle.edetector.specs.declared.slip.ShownSlip.{ShownSlip}
@@ -28,8 +28,8 @@ called t s Stake = (staking t s).after
 called t s Withdraw = (withdrawing t s (fitting_slip t s)).after
 called t s Rearm = (rearming t s).after
 called t s Read = (reading t s).after
-called t s (SettleStray slip) = cond (fitting t s slip.tag slip.number) s (settling t s slip).after
-called t s (WithdrawStray slip) = cond (fitting t s slip.tag slip.number) s (withdrawing t s slip).after
+called t s (SettleStray slip) = if fitting t s slip.tag slip.number then s else (settling t s slip).after
+called t s (WithdrawStray slip) = if fitting t s slip.tag slip.number then s else (withdrawing t s slip).after
 
 abbrev pub all_called : Terms → Standing → List Call → Standing
 all_called t s [] = s
@@ -59,7 +59,7 @@ rounds_in (b ∷ bs) = 1 + rounds_in bs
 
 abbrev pub alarms_in : List Bool → ℕ
 alarms_in [] = 0
-alarms_in (b ∷ bs) = cond b 1 0 + alarms_in bs
+alarms_in (b ∷ bs) = (if b then 1 else 0) + alarms_in bs
 
 -- the classes from i on, n of them
 abbrev pub classes_from : ℕ → ℕ → List ℕ

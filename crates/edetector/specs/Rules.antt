@@ -1,5 +1,5 @@
 -- The base of a round under the named restart rules.
-use Rattle.std.specs.Prelude.{ℕ, ◌+◌, ◌^◌, max, cond, nat_lt}
+use Rattle.std.specs.Prelude.{ℕ, ◌+◌, ◌^◌, max, if◌then◌else◌, nat_lt}
 
 -- one bet, in parts
 abbrev pub bet : ℕ
@@ -11,7 +11,7 @@ most_parts = 2 ^ 49
 
 -- above 2^32 parts no bet is begun
 abbrev pub capped : ℕ → ℕ → ℕ
-capped m begun = cond (nat_lt (2 ^ 32) m) m begun
+capped m begun = if nat_lt (2 ^ 32) m then m else begun
 
 -- the Shiryaev–Roberts rule adds a bet
 abbrev pub shiryaev_roberts : ℕ → ℕ

@@ -1,5 +1,5 @@
 -- Tables of class weights, and rows of factors that are fair against one.
-use Rattle.std.specs.Prelude.{ℕ, suc, ◌+◌, ◌-◌, ◌*◌, ◌<◌, ◌≤◌, min, Bool, true, cond, ◌&&◌, List, [], ◌∷◌, length, Some, None, Option, nat_le, slice_index}
+use Rattle.std.specs.Prelude.{ℕ, suc, ◌+◌, ◌-◌, ◌*◌, ◌<◌, ◌≤◌, min, Bool, true, not, if◌then◌else◌, ◌&&◌, List, [], ◌∷◌, length, Some, None, Option, nat_le, slice_index}
 use Rattle.edetector.specs.declared.value.ValueFault.{ValueFault}
 use Rattle.edetector.specs.declared.value.ValueFault.TheVariants.{Classes, Weight, Total}
 
@@ -21,9 +21,10 @@ weights_within low (w ∷ ws) = from_to low 65536 w && weights_within low ws
 -- 2 to 16 classes, then each weight, then the total from 1 to 65,536
 abbrev pub table_fault : ℕ → List ℕ → Option ValueFault
 table_fault low ws =
-    cond (from_to 2 16 (length ws))
-    (cond (weights_within low ws) (cond (from_to 1 65536 (total ws)) None (Some Total)) (Some Weight))
-    (Some Classes)
+    if not (from_to 2 16 (length ws)) then Some Classes
+    else if not (weights_within low ws) then Some Weight
+    else if not (from_to 1 65536 (total ws)) then Some Total
+    else None
 
 -- in a null table no weight is 0; in an alternative table a weight may be
 abbrev pub null_fault : List ℕ → Option ValueFault

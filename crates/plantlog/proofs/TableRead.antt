@@ -1,5 +1,5 @@
 -- A table read: its weights keep their limits, so that only the total is left to judge.
-use Rattle.std.proofs.Common.{◌≡◌, ℕ, zero, suc, Bool, true, false, cond, List, [], ◌∷◌, length, Some, None, Ok, Err, Option, Result, sym, refl, ap, ◌∙◌}
+use Rattle.std.proofs.Common.{◌≡◌, ℕ, zero, suc, Bool, true, false, cond, not, List, [], ◌∷◌, length, Some, None, Ok, Err, Option, Result, sym, refl, ap, ◌∙◌}
 use Rattle.std.proofs.lemmas.Bool.{and_from}
 use Rattle.edetector.specs.declared.value.ValueFault.{ValueFault}
 use Rattle.edetector.specs.declared.value.ValueFault.TheVariants.{Classes, Weight, Total}
@@ -35,7 +35,7 @@ abbrev pub judged : {X : Type 0} → Option ValueFault → Result X RecordFault 
 judged None r = r
 judged (Some f) r = Err (Value f)
 
-by_total : (a b t : Bool) (r : Result (List ℕ) RecordFault) → a ≡ true → b ≡ true → cond t r (Err (Value Total)) ≡ judged (cond a (cond b (cond t None (Some Total)) (Some Weight)) (Some Classes)) r
+by_total : (a b t : Bool) (r : Result (List ℕ) RecordFault) → a ≡ true → b ≡ true → cond t r (Err (Value Total)) ≡ judged (cond (not a) (Some Classes) (cond (not b) (Some Weight) (cond (not t) (Some Total) None))) r
 by_total true true true r p q = refl
 by_total true true false r p q = refl
 by_total true false t r p q = cc

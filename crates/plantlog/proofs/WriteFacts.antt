@@ -1,5 +1,5 @@
 -- What the writer may take for granted once the fields are judged.
-use Rattle.std.proofs.Common.{◌≡◌, ℕ, suc, ◌^◌, ◌<◌, Bool, true, false, cond, List, [], ◌∷◌, length, get_or, Some, None, Ok, Option, sym, refl}
+use Rattle.std.proofs.Common.{◌≡◌, ℕ, suc, ◌^◌, ◌<◌, Bool, true, false, cond, not, List, [], ◌∷◌, length, get_or, Some, None, Ok, Option, sym, refl}
 use Rattle.edetector.specs.declared.value.ValueFault.{ValueFault}
 use Rattle.edetector.specs.declared.value.ValueFault.TheVariants.{Classes, Weight, Total}
 use Rattle.edetector.specs.Tables.{from_to, total, weights_within, table_fault}
@@ -15,7 +15,7 @@ pub record Unbroken (low : ℕ) (ws : List ℕ) : Type 0 where
   pub each : weights_within low ws ≡ true
   pub sum : from_to 1 65536 (total ws) ≡ true
 
-by_tests : (a b t : Bool) → cond a (cond b (cond t None (Some Total)) (Some Weight)) (Some Classes) ≡ None → (a ≡ true) × (b ≡ true) × (t ≡ true)
+by_tests : (a b t : Bool) → cond (not a) (Some Classes) (cond (not b) (Some Weight) (cond (not t) (Some Total) None)) ≡ None → (a ≡ true) × (b ≡ true) × (t ≡ true)
 by_tests true true true e = (refl, refl, refl)
 by_tests true true false e = (cc, cc, cc)
 by_tests true false t e = (cc, cc, cc)
