@@ -1,8 +1,8 @@
 -- Sums over all sequences of classes.
 use Rattle.std.proofs.Common.{◌≡◌, ℕ, zero, suc, ◌+◌, ◌*◌, List, [], ◌∷◌, ◌++◌, map, length, get_or, sym, refl, ap, ◌∙◌, add-zero, mul_assoc, mul-zero, mul-add, arith}
-use Rattle.std.specs.List.{flat_map}
+use Rattle.std.specs.List.{flat_map, range_with_len}
 use Rattle.edetector.specs.Tables.{weigh, total}
-use Rattle.edetector.specs.Plans.{weighted, weight_of, sum_of, sequences, classes_from}
+use Rattle.edetector.specs.Plans.{weighted, weight_of, sum_of, sequences}
 use Rattle.edetector.specs.Sums.{weigh_add, weigh_scale}
 use Rattle.edetector.proofs.Weighing.{weigh_same, weigh_const}
 
@@ -47,18 +47,19 @@ sum_begun ws f k [] = sym (mul-zero (get_or ws k 0))
 sum_begun ws f k (x ∷ xs) =
     omega (arith, mul_assoc (get_or ws k 0) (weight_of ws x) (f (k ∷ x)), mul-add (get_or ws k 0) (weight_of ws x * f (k ∷ x)) (sum_of (λ ks. weight_of ws ks * f (k ∷ ks)) xs), sum_begun ws f k xs)
 
-sum_classes : (whole ws : List ℕ) (i : ℕ) (g : ℕ → ℕ) → ((j : ℕ) → get_or whole (i + j) 0 ≡ get_or ws j 0) → sum_of (λ k. get_or whole k 0 * g k) (classes_from i (length ws)) ≡ weigh ws i g
+sum_classes : (whole ws : List ℕ) (i : ℕ) (g : ℕ → ℕ) → ((j : ℕ) → get_or whole (i + j) 0 ≡ get_or ws j 0) → sum_of (λ k. get_or whole k 0 * g k) (range_with_len i (length ws)) ≡ weigh ws i g
 sum_classes whole [] i g same = refl
 sum_classes whole (w ∷ ws) i g same =
     let here : get_or whole i 0 * g i ≡ w * g i = ap (λ n. get_or whole n 0 * g i) (sym (add-zero i)) ∙ ap (λ n. n * g i) (same 0) in
-    let rest = sum_classes whole ws (suc i) g (λ j. ap (λ n. get_or whole n 0) (omega arith) ∙ same (suc j)) in
+    let rest : sum_of (λ k. get_or whole k 0 * g k) (range_with_len (i + 1) (length ws)) ≡ weigh ws (suc i) g =
+    sum_classes whole ws (i + 1) g (λ j. ap (λ n. get_or whole n 0) (omega arith) ∙ same (suc j)) ∙ ap (λ n. weigh ws n g) (omega arith) in
     omega (arith, here, rest)
 
 -- the sum over the sequences, one class after the other
 pub weighted_is : (ws : List ℕ) (h : ℕ) (f : List ℕ → ℕ) → weighted ws h f ≡ over_all ws h f
 weighted_is ws zero f = omega arith
 weighted_is ws (suc h) f =
-    sum_joined (λ ks. weight_of ws ks * f ks) (λ k. map (λ ks. k ∷ ks) (sequences (length ws) h)) (classes_from 0 (length ws))
-    ∙ sum_same (λ k. sum_of (λ ks. weight_of ws ks * f ks) (map (λ ks. k ∷ ks) (sequences (length ws) h))) (λ k. get_or ws k 0 * weighted ws h (λ ks. f (k ∷ ks))) (classes_from 0 (length ws)) (λ k. sum_begun ws f k (sequences (length ws) h))
+    sum_joined (λ ks. weight_of ws ks * f ks) (λ k. map (λ ks. k ∷ ks) (sequences (length ws) h)) (range_with_len 0 (length ws))
+    ∙ sum_same (λ k. sum_of (λ ks. weight_of ws ks * f ks) (map (λ ks. k ∷ ks) (sequences (length ws) h))) (λ k. get_or ws k 0 * weighted ws h (λ ks. f (k ∷ ks))) (range_with_len 0 (length ws)) (λ k. sum_begun ws f k (sequences (length ws) h))
     ∙ sum_classes ws ws 0 (λ k. weighted ws h (λ ks. f (k ∷ ks))) (λ j. ap (λ n. get_or ws n 0) (omega arith))
     ∙ weigh_same ws 0 (λ k. weighted ws h (λ ks. f (k ∷ ks))) (λ k. over_all ws h (λ ks. f (k ∷ ks))) (λ k. weighted_is ws h (λ ks. f (k ∷ ks)))

@@ -1,6 +1,7 @@
 -- What bettors play: a strategy names a row of factors for every list of classes that may yet be learned.
 -- Every division drops its remainder.
-use Rattle.std.specs.Prelude.{◌≡◌, ℕ, ◌+◌, ◌*◌, ◌/◌, Bool, true, false, if◌then◌else◌, ◌&&◌, List, [], ◌∷◌, length, replicate, ◌==◌, nat_lt, slice_index, slice_set}
+use Rattle.std.specs.Prelude.{◌≡◌, ℕ, ◌+◌, ◌*◌, ◌/◌, Bool, true, false, if◌then◌else◌, ◌&&◌, List, [], ◌∷◌, map, length, replicate, ◌==◌, nat_lt, slice_index, slice_set}
+use Rattle.std.specs.List.{zip}
 use Rattle.edetector.specs.Tables.{total, par}
 
 -- the row for the empty list is the row now
@@ -25,9 +26,7 @@ ratio whole v w a = (par * a * whole) / (v * w)
 
 -- the likelihood ratios of all classes: null weights of total whole, against alternative weights of total v
 abbrev pub ratios : ℕ → ℕ → List ℕ → List ℕ → List ℕ
-ratios whole v [] alts = []
-ratios whole v (w ∷ ws) [] = []
-ratios whole v (w ∷ ws) (a ∷ alts) = ratio whole v w a ∷ ratios whole v ws alts
+ratios whole v ws alts = map (λ p. ratio whole v p.0 p.1) (zip ws alts)
 
 -- the fixed bettor's row, whatever is learned
 abbrev pub fixed : List ℕ → List ℕ → Strategy
@@ -57,9 +56,7 @@ tally_all ws t (k ∷ later) = tally_all ws (tally_class ws t k) later
 
 -- the sums of weights and counts, class by class
 abbrev pub plus : List ℕ → List ℕ → List ℕ
-plus [] cs = []
-plus (w ∷ ws) [] = []
-plus (w ∷ ws) (c ∷ cs) = (w + c) ∷ plus ws cs
+plus ws cs = map (λ p. p.0 + p.1) (zip ws cs)
 
 -- the row of an adaptive bettor: its alternative is the null table with the tally added
 abbrev pub tally_row : List ℕ → Tally → List ℕ
@@ -77,10 +74,7 @@ same_table (x ∷ xs) (y ∷ ys) = x == y && same_table xs ys
 
 -- half the sum of two rows, class by class
 abbrev pub averages : List ℕ → List ℕ → List ℕ
-averages [] [] = []
-averages [] (g ∷ gs) = []
-averages (f ∷ fs) [] = []
-averages (f ∷ fs) (g ∷ gs) = ((f + g) / 2) ∷ averages fs gs
+averages fs gs = map (λ p. (p.0 + p.1) / 2) (zip fs gs)
 
 -- the row of a mixture of two bettors with the null tables ws and vs; where these differ it is the first's
 abbrev pub mixed : List ℕ → List ℕ → List ℕ → List ℕ → List ℕ

@@ -1,6 +1,6 @@
 -- Plans of calls, their runs, and the bound on alarms over every sequence that a sound line could send.
 use Rattle.std.specs.Prelude.{ℕ, zero, suc, ◌+◌, ◌*◌, ◌≤◌, Bool, if◌then◌else◌, List, [], ◌∷◌, ◌++◌, map, length, Ok, Err, Result, slice_index}
-use Rattle.std.specs.List.{flat_map}
+use Rattle.std.specs.List.{flat_map, range_with_len}
 use Rattle.edetector.specs.declared.slip.OpenSlip.{OpenSlip}
 use Rattle.edetector.specs.declared.slip.ShownSlip.{ShownSlip}
 use Rattle.edetector.specs.declared.fault.Refused.{Refused}
@@ -61,15 +61,10 @@ abbrev pub alarms_in : List Bool → ℕ
 alarms_in [] = 0
 alarms_in (b ∷ bs) = (if b then 1 else 0) + alarms_in bs
 
--- the classes from i on, n of them
-abbrev pub classes_from : ℕ → ℕ → List ℕ
-classes_from i zero = []
-classes_from i (suc n) = i ∷ classes_from (suc i) n
-
 -- all sequences of h classes out of n
 abbrev pub sequences : ℕ → ℕ → List (List ℕ)
 sequences n zero = [] ∷ []
-sequences n (suc h) = flat_map (λ k. map (λ ks. k ∷ ks) (sequences n h)) (classes_from 0 n)
+sequences n (suc h) = flat_map (λ k. map (λ ks. k ∷ ks) (sequences n h)) (range_with_len 0 n)
 
 -- a sequence's weight: the product of the null weights of its classes
 abbrev pub weight_of : List ℕ → List ℕ → ℕ

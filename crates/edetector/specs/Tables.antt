@@ -1,5 +1,6 @@
 -- Tables of class weights, and rows of factors that are fair against one.
-use Rattle.std.specs.Prelude.{ℕ, suc, ◌+◌, ◌-◌, ◌*◌, ◌<◌, ◌≤◌, min, Bool, true, not, if◌then◌else◌, ◌&&◌, List, [], ◌∷◌, length, Some, None, Option, nat_le, slice_index}
+use Rattle.std.specs.Prelude.{ℕ, suc, ◌+◌, ◌-◌, ◌*◌, ◌<◌, ◌≤◌, min, Bool, not, if◌then◌else◌, ◌&&◌, List, [], ◌∷◌, length, Some, None, Option, nat_le, slice_index}
+use Rattle.std.specs.List.{list_all}
 use Rattle.edetector.specs.declared.value.ValueFault.{ValueFault}
 use Rattle.edetector.specs.declared.value.ValueFault.TheVariants.{Classes, Weight, Total}
 
@@ -14,8 +15,7 @@ from_to low high n = nat_le low n && nat_le n high
 
 -- every weight lies from low to 65,536
 abbrev pub weights_within : ℕ → List ℕ → Bool
-weights_within low [] = true
-weights_within low (w ∷ ws) = from_to low 65536 w && weights_within low ws
+weights_within low ws = list_all (from_to low 65536) ws
 
 -- the first limit that a table breaks whose weights are to be at least low:
 -- 2 to 16 classes, then each weight, then the total from 1 to 65,536
