@@ -60,6 +60,7 @@ impl<B: Bettor, R: RestartRule> Monitor<B, R> {
     pub fn stake(&mut self) -> Result<OpenSlip, MonitorFault>
         ensures does { outcome result (view B.nulls B.strategy self.new) ≡ staking (terms_of B.nulls R.base self.old) (view B.nulls B.strategy self.old) }
         ensures same { terms_of B.nulls R.base self.new ≡ terms_of B.nulls R.base self.old }
+        ensures kept { (self.new.bettor ≡ self.old.bettor) × (self.new.rule ≡ self.old.rule) }
         ensures refused { Unchanged result self.old self.new }
     {
         let Phase::Armed = self.phase else {
@@ -79,6 +80,7 @@ impl<B: Bettor, R: RestartRule> Monitor<B, R> {
     pub fn settle(&mut self, slip: ShownSlip) -> Result<bool, Refused<ShownSlip>>
         ensures does { outcome result (view B.nulls B.strategy self.new) ≡ settling (terms_of B.nulls R.base self.old) (view B.nulls B.strategy self.old) slip }
         ensures same { terms_of B.nulls R.base self.new ≡ terms_of B.nulls R.base self.old }
+        ensures kept { self.new.rule ≡ self.old.rule }
         ensures refused { Unchanged result self.old self.new }
     {
         let k = class_of(self.bettor.classes(), slip.count);
@@ -110,6 +112,7 @@ impl<B: Bettor, R: RestartRule> Monitor<B, R> {
     pub fn withdraw(&mut self, slip: OpenSlip) -> Result<(), Refused<OpenSlip>>
         ensures does { outcome result (view B.nulls B.strategy self.new) ≡ withdrawing (terms_of B.nulls R.base self.old) (view B.nulls B.strategy self.old) slip }
         ensures same { terms_of B.nulls R.base self.new ≡ terms_of B.nulls R.base self.old }
+        ensures kept { (self.new.bettor ≡ self.old.bettor) × (self.new.rule ≡ self.old.rule) }
         ensures refused { Unchanged result self.old self.new }
     {
         if self.stake_for(slip.tag, slip.number).is_none() {
@@ -126,6 +129,7 @@ impl<B: Bettor, R: RestartRule> Monitor<B, R> {
     pub fn rearm(&mut self) -> Result<(), MonitorFault>
         ensures does { outcome result (view B.nulls B.strategy self.new) ≡ rearming (terms_of B.nulls R.base self.old) (view B.nulls B.strategy self.old) }
         ensures same { terms_of B.nulls R.base self.new ≡ terms_of B.nulls R.base self.old }
+        ensures kept { (self.new.bettor ≡ self.old.bettor) × (self.new.rule ≡ self.old.rule) }
         ensures refused { Unchanged result self.old self.new }
     {
         if let Phase::Staked(_) = self.phase {
