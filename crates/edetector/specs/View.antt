@@ -32,8 +32,3 @@ Made nulls strategy base bettor rule threshold tag (Ok m) =
     (from_to 1 4096 threshold ≡ true) × (terms_of nulls base m ≡ terms (nulls bettor) (base rule) threshold tag) × (view nulls strategy m ≡ fresh (strategy bettor)) × (m.bettor ≡ bettor) × (m.rule ≡ rule)
 Made nulls strategy base bettor rule threshold tag (Err e) =
     (from_to 1 4096 threshold ≡ false) × (e ≡ record { fault = Threshold; bettor = bettor; rule = rule })
-
--- a refused call leaves the value itself as it was
-abbrev pub Unchanged : {X Y V : Type 0} → Result X Y → V → V → Type 0
-Unchanged (Ok x) before after = Unit {0}
-Unchanged (Err y) before after = after ≡ before

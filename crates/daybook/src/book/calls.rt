@@ -1,6 +1,5 @@
 // How a book is made, filled, read and emptied.
-ghost use Rattle.std.specs.Prelude.{◌≡◌, [], ◌∷◌, ◌++◌, length, OnOk};
-ghost use Rattle.edetector.specs.View.{Unchanged};
+ghost use Rattle.std.specs.Prelude.{◌≡◌, [], ◌∷◌, ◌++◌, length, OnOk, OnErr};
 ghost use Rattle.daybook.specs.Books.{entries_of, unused_of, places_of, all_used, above_in, enter_answer, Keeps};
 
 use super::Book;
@@ -22,7 +21,7 @@ impl<'a, E: Dated + Copy> Book<'a, E> {
         ensures answer { result ≡ enter_answer E.key (places_of self.old) (entries_of self.old) e }
         ensures entered { OnOk result (entries_of self.new ≡ entries_of self.old ++ (e ∷ [])) }
         ensures kept { Keeps self.old self.new }
-        ensures refused { Unchanged result self.old self.new }
+        ensures refused { OnErr result (self.new ≡ self.old) }
     {
         if self.is_full() {
             return Err(BookFault::Full);

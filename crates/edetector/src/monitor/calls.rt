@@ -1,10 +1,10 @@
 // How a monitor is made, and its five calls. What each answers, leaves alone and does when it refuses is its own promise.
-ghost use Rattle.std.specs.Prelude.{◌≡◌, ◌*◌, ◌/◌, ◌≤◌, ◌↔◌, IsTrue, IsSome, IfSome};
+ghost use Rattle.std.specs.Prelude.{◌≡◌, ◌*◌, ◌/◌, ◌≤◌, ◌↔◌, IsTrue, OnErr, IsSome, IfSome};
 ghost use Rattle.edetector.specs.declared.monitor.phase.Phase.TheVariants.{Staked};
 ghost use Rattle.edetector.specs.Ledger.{outcome, fitting, staking, settling, withdrawing, rearming, reading};
 ghost use Rattle.edetector.specs.Plans.{Bound};
 ghost use Rattle.edetector.specs.Rules.{bet};
-ghost use Rattle.edetector.specs.View.{view, terms, terms_of, told_by, Made, Unchanged};
+ghost use Rattle.edetector.specs.View.{view, terms, terms_of, told_by, Made};
 
 use super::super::bettor::Bettor;
 use super::super::fault::{MonitorFault, Refused, Unmade};
@@ -61,7 +61,7 @@ impl<B: Bettor, R: RestartRule> Monitor<B, R> {
         ensures does { outcome result (view B.nulls B.strategy self.new) ≡ staking (terms_of B.nulls R.base self.old) (view B.nulls B.strategy self.old) }
         ensures same { terms_of B.nulls R.base self.new ≡ terms_of B.nulls R.base self.old }
         ensures kept { (self.new.bettor ≡ self.old.bettor) × (self.new.rule ≡ self.old.rule) }
-        ensures refused { Unchanged result self.old self.new }
+        ensures refused { OnErr result (self.new ≡ self.old) }
     {
         let Phase::Armed = self.phase else {
             return Err(MonitorFault::NotArmed);
@@ -81,7 +81,7 @@ impl<B: Bettor, R: RestartRule> Monitor<B, R> {
         ensures does { outcome result (view B.nulls B.strategy self.new) ≡ settling (terms_of B.nulls R.base self.old) (view B.nulls B.strategy self.old) slip }
         ensures same { terms_of B.nulls R.base self.new ≡ terms_of B.nulls R.base self.old }
         ensures kept { self.new.rule ≡ self.old.rule }
-        ensures refused { Unchanged result self.old self.new }
+        ensures refused { OnErr result (self.new ≡ self.old) }
     {
         let k = class_of(self.bettor.classes(), slip.count);
         let Some(stake) = self.stake_for(slip.tag, slip.number) else {
@@ -113,7 +113,7 @@ impl<B: Bettor, R: RestartRule> Monitor<B, R> {
         ensures does { outcome result (view B.nulls B.strategy self.new) ≡ withdrawing (terms_of B.nulls R.base self.old) (view B.nulls B.strategy self.old) slip }
         ensures same { terms_of B.nulls R.base self.new ≡ terms_of B.nulls R.base self.old }
         ensures kept { (self.new.bettor ≡ self.old.bettor) × (self.new.rule ≡ self.old.rule) }
-        ensures refused { Unchanged result self.old self.new }
+        ensures refused { OnErr result (self.new ≡ self.old) }
     {
         if self.stake_for(slip.tag, slip.number).is_none() {
             return Err(Refused {
@@ -130,7 +130,7 @@ impl<B: Bettor, R: RestartRule> Monitor<B, R> {
         ensures does { outcome result (view B.nulls B.strategy self.new) ≡ rearming (terms_of B.nulls R.base self.old) (view B.nulls B.strategy self.old) }
         ensures same { terms_of B.nulls R.base self.new ≡ terms_of B.nulls R.base self.old }
         ensures kept { (self.new.bettor ≡ self.old.bettor) × (self.new.rule ≡ self.old.rule) }
-        ensures refused { Unchanged result self.old self.new }
+        ensures refused { OnErr result (self.new ≡ self.old) }
     {
         if let Phase::Staked(_) = self.phase {
             return Err(MonitorFault::NotArmed);
