@@ -4,7 +4,8 @@ use Rattle.std.proofs.Common.{inl, inr, le_of_suc-le-suc, not-suc-le-zero, arith
 use Rattle.std.proofs.lemmas.Bool.Decides.{nat_tests}
 use Rattle.std.proofs.lemmas.Bool.{and_parts, and_from, and_left, and_right, leb-true}
 use Rattle.edetector.specs.declared.value.ValueFault.TheVariants.{Classes, Weight, Total}
-use Rattle.edetector.specs.Tables.{total, from_to, weights_within, table_fault}
+use Rattle.edetector.specs.Tables.{total, from_to, weights_within, table_fault, null_fault}
+use Rattle.edetector.specs.Held.{NullLimits}
 
 pub inside : (low high n : ℕ) → low ≤ n → n ≤ high → from_to low high n ≡ true
 inside low high n h l = grind (arith, nat_tests)
@@ -56,11 +57,30 @@ module _ (low : ℕ) (ws : List ℕ) where
         let d = inside 1 65536 (total ws) heavy light in
         rw (a, b, d) refl
 
-  -- what an unbroken table keeps
-  by_tests : (a b d : Bool) → cond (not a) (Some Classes) (cond (not b) (Some Weight) (cond (not d) (Some Total) None)) ≡ None → b ≡ true
-  by_tests true true d e = refl
-  by_tests true false d e = cc
-  by_tests false b d e = cc
+-- what an unbroken table keeps
+by_tests : (a b d : Bool) → cond (not a) (Some Classes) (cond (not b) (Some Weight) (cond (not d) (Some Total) None)) ≡ None → (a ≡ true) × (b ≡ true) × (d ≡ true)
+by_tests true true true e = (refl, refl, refl)
+by_tests true true false e = (cc, cc, cc)
+by_tests true false d e = (cc, cc, cc)
+by_tests false b d e = (cc, cc, cc)
 
-  pub each_least : table_fault low ws ≡ None → (k : ℕ) → k < length ws → low ≤ slice_index ws k
-  each_least e k h = (each_within low ws (by_tests (from_to 2 16 (length ws)) (weights_within low ws) (from_to 1 65536 (total ws)) e) k h).0
+unbroken_tests : (low : ℕ) (ws : List ℕ) → table_fault low ws ≡ None → (from_to 2 16 (length ws) ≡ true) × (weights_within low ws ≡ true) × (from_to 1 65536 (total ws) ≡ true)
+unbroken_tests low ws e = by_tests (from_to 2 16 (length ws)) (weights_within low ws) (from_to 1 65536 (total ws)) e
+
+pub each_least : (low : ℕ) (ws : List ℕ) → table_fault low ws ≡ None → (k : ℕ) → k < length ws → low ≤ slice_index ws k
+each_least low ws e k h = (each_within low ws (unbroken_tests low ws e).1 k h).0
+
+pub null_limits : (ws : List ℕ) → null_fault ws ≡ None → NullLimits ws
+null_limits ws e =
+    let tests = unbroken_tests 1 ws e in
+    let classes = and_parts _ _ tests.0 in
+    let whole = and_parts _ _ tests.2 in
+    record {
+      some = leb-true 2 (length ws) classes.0;
+      few = leb-true (length ws) 16 classes.1;
+      each = each_least 1 ws e;
+      light = leb-true (total ws) 65536 whole.1;
+    }
+
+pub null_few : (ws : List ℕ) → null_fault ws ≡ None → length ws ≤ 16
+null_few ws e = (null_limits ws e).few

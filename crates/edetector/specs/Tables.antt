@@ -1,5 +1,5 @@
 -- Tables of class weights, and rows of factors that are fair against one.
-use Rattle.std.specs.Prelude.{ℕ, suc, ◌+◌, ◌-◌, ◌*◌, ◌<◌, ◌≤◌, min, Bool, not, if◌then◌else◌, ◌&&◌, List, [], ◌∷◌, length, Some, None, Option, nat_le, slice_index}
+use Rattle.std.specs.Prelude.{ℕ, suc, ◌+◌, ◌-◌, ◌*◌, ◌≤◌, min, Bool, not, if◌then◌else◌, ◌&&◌, List, [], ◌∷◌, length, Some, None, Option, nat_le, slice_index}
 use Rattle.std.specs.List.{list_all}
 use Rattle.edetector.specs.declared.value.ValueFault.{ValueFault}
 use Rattle.edetector.specs.declared.value.ValueFault.TheVariants.{Classes, Weight, Total}
@@ -32,13 +32,6 @@ null_fault ws = table_fault 1 ws
 
 abbrev pub alternative_fault : List ℕ → Option ValueFault
 alternative_fault ws = table_fault 0 ws
-
--- the limits of a null table, one by one
-pub record IsNullTable (ws : List ℕ) : Type 0 where
-  pub some : 2 ≤ length ws
-  pub few : length ws ≤ 16
-  pub each : (k : ℕ) → k < length ws → 1 ≤ slice_index ws k
-  pub light : total ws ≤ 65536
 
 -- the class of a count, out of so many classes: the count's own number, or the last class
 abbrev pub class_of : ℕ → ℕ → ℕ

@@ -1,7 +1,7 @@
 // A bettor: a null table, and a strategy that names a row of factors for every list of classes learned from now on.
-ghost use Rattle.std.specs.Prelude.{◌≡◌, ℕ, ◌≤◌, List, [], length, slice_index};
+ghost use Rattle.std.specs.Prelude.{◌≡◌, ℕ, ◌≤◌, List, [], length, None, slice_index};
 ghost use Rattle.edetector.specs.Units.{IsRow};
-ghost use Rattle.edetector.specs.Tables.{IsNullTable, Fair};
+ghost use Rattle.edetector.specs.Tables.{null_fault, Fair};
 ghost use Rattle.edetector.specs.Bettors.{LearnStep};
 
 use super::units::{Factor, Row, Weight};
@@ -35,7 +35,7 @@ pub trait Bettor {
         array::from_fn(|k| self.factor(k))
     }
 
-    ghost table: { (b : Self) → IsNullTable (nulls b) };
+    ghost table: { (b : Self) → null_fault (nulls b) ≡ None };
 
     // a row has a factor for each class
     ghost whole: { (b : Self) (later : List ℕ) → length (strategy b later) ≡ length (nulls b) };

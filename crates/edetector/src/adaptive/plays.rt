@@ -3,7 +3,7 @@ ghost use Rattle.std.specs.Prelude.{◌≡◌, ℕ, length};
 ghost use Rattle.edetector.specs.Bettors.{adaptive as plays, no_tally, tally_class};
 ghost use Rattle.edetector.specs.Tallies.{tally_of};
 ghost use Rattle.edetector.specs.Weights.{null_weights};
-ghost use Rattle.edetector.specs.Held.{is_null_table};
+ghost use Rattle.edetector.specs.Held.{null_unbroken};
 ghost use Rattle.edetector.specs.Tallying.{tally_long, tally_fair};
 
 use super::super::bettor::Bettor;
@@ -34,7 +34,7 @@ impl Bettor for Adaptive {
 
     ghost strategy = { λ b. plays (null_weights b.null) (tally_of b) };
 
-    ghost table = { λ b. is_null_table b.null };
+    ghost table = { λ b. null_unbroken b.null };
 
     ghost whole = { λ b later. tally_long b later };
 

@@ -4,7 +4,7 @@ ghost use Rattle.edetector.specs.Units.{IsRow};
 ghost use Rattle.edetector.specs.Bettors.{fixed as plays};
 ghost use Rattle.edetector.specs.Pairs.{Paired};
 ghost use Rattle.edetector.specs.Weights.{null_weights, alternative_weights};
-ghost use Rattle.edetector.specs.Held.{is_null_table};
+ghost use Rattle.edetector.specs.Held.{null_unbroken};
 ghost use Rattle.edetector.specs.Fixing.{fixed_long, fixed_fair};
 
 use super::super::bettor::Bettor;
@@ -57,7 +57,7 @@ impl Bettor for Fixed {
 
     ghost strategy = { λ b. plays (null_weights b.null) (alternative_weights b.alternative) };
 
-    ghost table = { λ b. is_null_table b.null };
+    ghost table = { λ b. null_unbroken b.null };
 
     ghost whole = { λ b later. fixed_long b.null b.alternative b.level };
 
