@@ -1,5 +1,5 @@
 -- What holds of a monitor in each state.
-use Rattle.std.specs.Prelude.{ℕ, Bool, true, false, nat_le, nat_lt}
+use Rattle.std.specs.Prelude.{ℕ, Bool, true, false, if◌then◌else◌, nat_le, nat_lt}
 use Rattle.edetector.specs.declared.state.State.{State}
 use Rattle.edetector.specs.declared.state.State.TheVariants.{Armed, Staked, Rung}
 
@@ -25,6 +25,4 @@ most_rounds = 1000000
 
 -- a staked monitor has a round left
 abbrev pub lasts : State → ℕ → Bool
-lasts Armed rounds = nat_le rounds most_rounds
-lasts Staked rounds = nat_lt rounds most_rounds
-lasts Rung rounds = nat_le rounds most_rounds
+lasts state rounds = if is_staked state then nat_lt rounds most_rounds else nat_le rounds most_rounds

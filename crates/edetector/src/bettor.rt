@@ -2,7 +2,7 @@
 ghost use Rattle.std.specs.Prelude.{◌≡◌, ℕ, ◌≤◌, List, [], length, None, slice_index};
 ghost use Rattle.edetector.specs.Units.{IsRow};
 ghost use Rattle.edetector.specs.Tables.{null_fault, Fair};
-ghost use Rattle.edetector.specs.Bettors.{LearnStep};
+ghost use Rattle.edetector.specs.Bettors.{Strategy, LearnStep};
 
 use super::units::{Factor, Row, Weight};
 use std::array;
@@ -10,7 +10,7 @@ use std::array;
 pub trait Bettor {
     ghost nulls: { Self → List ℕ };
 
-    ghost strategy: { Self → List ℕ → List ℕ };
+    ghost strategy: { Self → Strategy };
 
     fn classes(&self) -> usize
         ensures { result ≡ length (nulls self.now) };
