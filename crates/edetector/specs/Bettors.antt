@@ -43,10 +43,11 @@ no_tally classes = record { counts = replicate classes 0; seen = 0 }
 abbrev pub one_more : Tally → ℕ → Tally
 one_more t k = record { counts = slice_set t.counts k (slice_index t.counts k + 1); seen = t.seen + 1 }
 
--- a tally of so many classes stays as it is
+-- no more classes than these are tallied
 abbrev pub most_tallied : ℕ
 most_tallied = 1000000
 
+-- the tally once k is learned
 abbrev pub tally_class : List ℕ → Tally → ℕ → Tally
 tally_class ws t k = if nat_lt k (length ws) && nat_lt t.seen most_tallied then one_more t k else t
 

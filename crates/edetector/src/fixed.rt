@@ -1,5 +1,5 @@
 // The fixed bettor: it plays the likelihood ratios of one alternative, whatever it learns.
-ghost use Rattle.std.specs.Prelude.{◌≡◌, ℕ, [], slice_index};
+ghost use Rattle.std.specs.Prelude.{◌≡◌, []};
 ghost use Rattle.edetector.specs.Units.{IsRow};
 ghost use Rattle.edetector.specs.Bettors.{fixed as plays};
 ghost use Rattle.edetector.specs.Weights.{null_weights, alternative_weights};

@@ -1,5 +1,5 @@
 // A mixture of any two bettors, which bets half on each.
-ghost use Rattle.std.specs.Prelude.{◌≡◌, ℕ, ◌+◌, ◌/◌, ◌<◌, ◌≤◌, List, [], if◌then◌else◌, length, Ok, Err, slice_index};
+ghost use Rattle.std.specs.Prelude.{◌≡◌, ℕ, ◌+◌, ◌/◌, ◌<◌, ◌≤◌, if◌then◌else◌, length, Ok, Err, slice_index};
 ghost use Rattle.edetector.specs.declared.value.ValueFault.TheVariants.{NullTables};
 ghost use Rattle.edetector.specs.Units.{factors_in};
 ghost use Rattle.edetector.specs.Bettors.{LearnStep, mixture as plays, same_table};

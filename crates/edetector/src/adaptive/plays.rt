@@ -1,5 +1,5 @@
 // How the adaptive bettor is made, what it plays and how it learns.
-ghost use Rattle.std.specs.Prelude.{◌≡◌, ℕ, length};
+ghost use Rattle.std.specs.Prelude.{◌≡◌, length};
 ghost use Rattle.edetector.specs.Bettors.{adaptive as plays, no_tally, tally_class};
 ghost use Rattle.edetector.specs.Tallies.{tally_of};
 ghost use Rattle.edetector.specs.Weights.{null_weights};

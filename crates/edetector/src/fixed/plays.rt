@@ -1,5 +1,5 @@
 // How the fixed bettor is made, and what it plays.
-ghost use Rattle.std.specs.Prelude.{◌≡◌, ℕ, [], length, slice_index};
+ghost use Rattle.std.specs.Prelude.{◌≡◌, [], slice_index};
 ghost use Rattle.edetector.specs.Units.{IsRow};
 ghost use Rattle.edetector.specs.Bettors.{fixed as plays};
 ghost use Rattle.edetector.specs.Pairs.{Paired};
