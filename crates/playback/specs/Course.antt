@@ -5,6 +5,7 @@ use Rattle.edetector.specs.declared.state.State.TheVariants.{Armed, Staked, Rung
 use Rattle.edetector.specs.Rules.{bet}
 use Rattle.edetector.specs.Tables.{class_of, par}
 use Rattle.edetector.specs.Ledger.{Terms, Standing, staking, rearming}
+use Rattle.edetector.specs.States.{most_rounds}
 use Rattle.edetector.specs.Plans.{next}
 use Rattle.edetector.specs.declared.fault.MonitorFault.TheVariants.{NotArmed, Spent}
 use Rattle.plantlog.specs.declared.fault.RecordFault.TheVariants.{NoneLeft}
@@ -89,7 +90,7 @@ recursion t s count = (t.base s.ledger * slice_index (s.play []) (class_of (leng
 -- the book that it may need has a free place. A rearm is taken unless a bet is staked
 abbrev pub Rightly : Terms → Places → Standing → Event → Type 0
 Rightly t free s (Settled day count) =
-    (s.state ≡ Armed) × (s.rounds < 1000000) × (0 < free.alarms) × ((after_event t s (Settled day count)).ledger ≡ recursion t s count)
+    (s.state ≡ Armed) × (s.rounds < most_rounds) × (0 < free.alarms) × ((after_event t s (Settled day count)).ledger ≡ recursion t s count)
 Rightly t free s (Passed day number) = (s.state ≡ Rung) × (0 < free.unwatched)
 Rightly t free s Rearmed = s.state ≡ Staked → ⊥
 
@@ -135,7 +136,7 @@ NoCount free w day DayNotAbove = above w.last day ≡ false
 NoCount free w day (Book Full) = (above w.last day ≡ true) × NoPlace w.standing.state free
 NoCount free w day (Monitor NotArmed) = (above w.last day ≡ true) × (0 < free.alarms) × (w.standing.state ≡ Staked)
 NoCount free w day (Monitor Spent) =
-    (above w.last day ≡ true) × (0 < free.alarms) × (w.standing.state ≡ Armed) × (1000000 ≤ w.standing.rounds)
+    (above w.last day ≡ true) × (0 < free.alarms) × (w.standing.state ≡ Armed) × (most_rounds ≤ w.standing.rounds)
 NoCount free w day _ = ⊥
 
 -- why the next record is not taken, or that there is none
