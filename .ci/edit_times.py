@@ -44,8 +44,10 @@ def known(folder, every):
 
 def main(out):
     every, begun, named, took = list(edits()), {}, {}, {}
+    copies = f"{tempfile.gettempdir()}/rt-edit-*"
+    others = set(glob.glob(copies))
     while True:
-        now, there = time.monotonic(), set(glob.glob(f"{tempfile.gettempdir()}/rt-edit-*"))
+        now, there = time.monotonic(), set(glob.glob(copies)) - others
         for folder in there:
             begun.setdefault(folder, now)
             if not named.get(folder):

@@ -1,27 +1,28 @@
 #!/usr/bin/env python3
-"""Plants the bugs of an edit in a copy of a crate: plant.py EDIT FOLDER. Each old text stands once, and each bug is named."""
+"""Plants the bugs of an edit in a copy of a crate: plant.py EDIT FOLDER. Each old text stands once, and each bug has a name."""
 import sys
 
 
 def main(edit, folder):
-    name, old, bugs, named = None, None, 0, 0
+    file = old = name = None
     for line in open(edit).read().split("\n"):
         if line.startswith("# "):
-            named += 1
+            if name and old is None:
+                print(f"{edit} plants nothing for: {name}")
+                return 1
+            name, old = line[2:], None
         elif line.startswith("file: "):
-            name = f"{folder}/{line[6:].strip()}"
+            file = f"{folder}/{line[6:].strip()}"
         elif line.startswith("old: "):
             old = line[5:]
         elif line.startswith("new:"):
-            text = open(name).read()
-            if text.count(old) != 1:
-                print(f"{name}: {text.count(old)} times, and not once: {old}")
+            with open(file) as it:
+                text = it.read()
+            if not name or text.count(old) != 1:
+                print(f"{edit}: no name, or in {file} {text.count(old)} times and not once: {old}")
                 return 1
-            open(name, "w").write(text.replace(old, line[5:]))
-            bugs += 1
-    if bugs != named:
-        print(f"{edit} plants {bugs} bugs and names {named}")
-        return 1
+            with open(file, "w") as it:
+                it.write(text.replace(old, line[5:]))
     return 0
 
 

@@ -2,10 +2,9 @@
 use Rattle.std.proofs.Common.{◌≡◌, ℕ, zero, suc, ◌+◌, ◌≤◌, Bool, true, false, cond, eqb, leb, List, [], ◌∷◌, length, get_or, Fits, w8, None, Some, IfOk, Ok, Err, Option, Result, sym, refl, ap, ◌∙◌, subst, not-suc-le-zero, arith}
 use Rattle.std.proofs.lemmas.List.{append-nil}
 use Rattle.std.proofs.lemmas.Bool.{eqb-true}
-use Rattle.std.proofs.lemmas.Bool.Decides.{nat_tests}
 use Rattle.edetector.specs.declared.value.ValueFault.TheVariants.{Alternative as UnlikeClasses, Threshold}
 use Rattle.edetector.specs.Tables.{from_to}
-use Rattle.edetector.specs.Bettors.{Strategy, adaptive, no_tally}
+use Rattle.edetector.specs.Bettors.{Strategy}
 use Rattle.edetector.specs.Ledger.{Terms}
 use Rattle.plantlog.specs.Bytes.{Bytes}
 use Rattle.plantlog.specs.Calls.{span}
