@@ -53,7 +53,7 @@ pub(super) fn judge_next(left: &[u8], buf: &mut [u8]) -> Result<(Parsed, usize),
     Ok((parsed, n + 1))
 }
 
-// Wipes the receive buffer for a call that judges nothing anew.
+// For a call that judges nothing anew: the receive buffer is wiped, and has to be long enough all the same.
 pub(super) fn wiped(buf: &mut [u8]) -> Result<(), RecordFault>
     ensures zero { buf.new ≡ zeros buf.old }
     ensures value { result ≡ roomy (length buf.old) (Ok tt) }

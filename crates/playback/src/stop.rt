@@ -23,7 +23,7 @@ pub enum ReplayFault {
     CountsDiffer,
     // bytes follow the end
     Trailing,
-    // the log is longer than the program takes
+    // the log is longer than 65,536 bytes
     TooLong,
 }
 

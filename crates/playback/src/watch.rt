@@ -18,7 +18,8 @@ use edetector::rule::RestartRule;
 use plantlog::record::Kind;
 
 // The next record; whether more may follow it.
-// What it leaves alone (`terms`, `kept`) each call below says too: a struct of monitor and books would say it as often.
+// What it leaves alone (`terms`, `kept`) each call below says of what it is lent: a struct of monitor and books would say it as
+// often.
 fn step<B: Bettor, R: RestartRule>(
     records: &mut Records<'_>,
     monitor: &mut Monitor<B, R>,
