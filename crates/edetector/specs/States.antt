@@ -19,7 +19,7 @@ level Armed cap ledger = nat_lt ledger cap
 level Staked cap ledger = nat_lt ledger cap
 level Rung cap ledger = nat_le cap ledger
 
--- a monitor stakes so many rounds at most
+-- after so many settled rounds a stake is refused
 abbrev pub most_rounds : ℕ
 most_rounds = 1000000
 

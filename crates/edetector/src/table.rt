@@ -1,5 +1,5 @@
 // Tables of class weights.
-ghost use Rattle.std.specs.Prelude.{◌≡◌, ℕ, ◌<◌, ◌≤◌, length, take, slice_index};
+ghost use Rattle.std.specs.Prelude.{◌≡◌, ℕ, ◌<◌, ◌≤◌, ◌-◌, length, take, drop, replicate, slice_index};
 ghost use Rattle.edetector.specs.Units.{weights_in};
 ghost use Rattle.edetector.specs.Tables.{total};
 
@@ -19,6 +19,7 @@ pub struct Table<const LEAST: u32> {
     ghost some: { 2 ≤ classes },
     ghost few: { classes ≤ 16 },
     ghost room: { length weights ≡ 16 },
+    ghost behind: { drop classes weights ≡ replicate (16 - classes) (record { 0 = 0 }) },
     ghost sums: { total (take classes (weights_in weights)) ≡ whole },
     ghost heavy: { 1 ≤ whole },
     ghost light: { whole ≤ 65536 },

@@ -4,7 +4,7 @@ use Rattle.plantlog.specs.declared.fault.RecordFault.{RecordFault}
 use Rattle.plantlog.specs.declared.fault.RecordFault.TheVariants.{ReceiveBuffer, WrongCall}
 use Rattle.plantlog.specs.declared.record.Kind.{Kind}
 use Rattle.plantlog.specs.Results.{of_ok, and_then}
-use Rattle.plantlog.specs.Format.{Fields, Table, Setup, Alternative, Count, Rearm, End, kind_of}
+use Rattle.plantlog.specs.Format.{Fields, Count, kind_of}
 use Rattle.plantlog.specs.FirstRecord.{first_record}
 
 -- how many bytes the record in front takes: its length byte, and as many as that says
@@ -27,21 +27,13 @@ asked room (b ∷ bs) = of_ok (λ p. Some (kind_of p.0)) (next_in room (b ∷ bs
 
 -- a record to be shown or passed over has to be a count
 abbrev pub only_count : Fields → Result ℕ RecordFault
-only_count (Table ws) = Err WrongCall
-only_count (Setup a r b) = Err WrongCall
-only_count (Alternative ws) = Err WrongCall
 only_count (Count day n) = Ok n
-only_count Rearm = Err WrongCall
-only_count (End n) = Err WrongCall
+only_count _ = Err WrongCall
 
 -- one to be read has to be none
 abbrev pub no_count : Fields → Result Fields RecordFault
-no_count (Table ws) = Ok (Table ws)
-no_count (Setup a r b) = Ok (Setup a r b)
-no_count (Alternative ws) = Ok (Alternative ws)
 no_count (Count day n) = Err WrongCall
-no_count Rearm = Ok Rearm
-no_count (End n) = Ok (End n)
+no_count f = Ok f
 
 -- the count to be shown or passed over
 abbrev pub next_count : ℕ → List ℕ → Result ℕ RecordFault

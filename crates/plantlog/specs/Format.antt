@@ -67,6 +67,4 @@ fields_fault (Setup a r b) =
     then (if from_to 1 2 r then (if from_to 1 3 b then None else Some UnknownChoice) else Some UnknownChoice)
     else Some (Value Threshold)
 fields_fault (Alternative ws) = of_value (alternative_fault ws)
-fields_fault (Count day n) = None
-fields_fault Rearm = None
-fields_fault (End n) = None
+fields_fault _ = None

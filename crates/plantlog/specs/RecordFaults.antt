@@ -23,12 +23,4 @@ record_fault_number WriteBuffer = 26
 abbrev pub record_fault_layer : RecordFault → Layer
 record_fault_layer (Value cause) = ValueLayer
 record_fault_layer (Number cause) = NumberLayer
-record_fault_layer ReceiveBuffer = RecordLayer
-record_fault_layer NoneLeft = RecordLayer
-record_fault_layer LengthByte = RecordLayer
-record_fault_layer Truncated = RecordLayer
-record_fault_layer UnknownKind = RecordLayer
-record_fault_layer UnknownChoice = RecordLayer
-record_fault_layer LeftOver = RecordLayer
-record_fault_layer WrongCall = RecordLayer
-record_fault_layer WriteBuffer = RecordLayer
+record_fault_layer _ = RecordLayer

@@ -1,5 +1,5 @@
 // The receive buffer, held for one record.
-ghost use Rattle.std.specs.Prelude.{◌≡◌, ◌<◌, ◌≤◌, length, replicate, MatchResult};
+ghost use Rattle.std.specs.Prelude.{◌≡◌, ◌<◌, ◌≤◌, length, MatchResult};
 ghost use Rattle.plantlog.specs.declared.fault.RecordFault.TheVariants.{ReceiveBuffer};
 ghost use Rattle.plantlog.specs.Bytes.{zeros};
 

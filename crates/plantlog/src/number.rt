@@ -1,5 +1,5 @@
 // Numbers of the log: groups of seven bits, lowest first, the top bit of a byte saying that another follows.
-ghost use Rattle.std.specs.Prelude.{◌≡◌, ℕ, ◌+◌, ◌-◌, ◌*◌, ◌<◌, ◌≤◌, List, ◌++◌, length, drop};
+ghost use Rattle.std.specs.Prelude.{◌≡◌, ◌+◌, ◌-◌, ◌*◌, ◌<◌, ◌≤◌, ◌++◌, length, drop};
 ghost use Rattle.plantlog.specs.Results.{of_ok};
 ghost use Rattle.plantlog.specs.NumberFaults.{number_fault_number};
 ghost use Rattle.plantlog.specs.Numbers.{number_bytes, first_number, first_number_by};

@@ -1,5 +1,5 @@
 // A body taken apart by its kind byte.
-ghost use Rattle.std.specs.Prelude.{◌≡◌, ◌≢◌, ℕ, ◌-◌, ◌≤◌, length};
+ghost use Rattle.std.specs.Prelude.{◌≡◌, ◌≢◌, ◌-◌};
 ghost use Rattle.plantlog.specs.Results.{of_ok};
 ghost use Rattle.plantlog.specs.Format.{Rearm as InRearm};
 ghost use Rattle.plantlog.specs.FirstRecord.{setup_fields, count_fields, end_fields, ended, by_kind, body_fields};

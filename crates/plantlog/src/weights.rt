@@ -1,5 +1,5 @@
 // A table of weights in a body.
-ghost use Rattle.std.specs.Prelude.{◌≡◌, ℕ, ◌-◌, ◌≤◌, length};
+ghost use Rattle.std.specs.Prelude.{◌≡◌, ◌-◌};
 ghost use Rattle.edetector.specs.Weights.{held_weights};
 ghost use Rattle.plantlog.specs.Results.{of_ok};
 ghost use Rattle.plantlog.specs.FirstRecord.{table_fields};

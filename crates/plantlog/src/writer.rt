@@ -1,7 +1,7 @@
 // Records written at the front of a buffer, one call for each kind. Each gives the record's length; the bytes behind it
 // stay, and a refusal writes nothing.
 // One call over an enum of what to write would hold a lent slice in one variant, and its callers could not be proved.
-ghost use Rattle.std.specs.Prelude.{◌≡◌, ℕ, ◌+◌, ◌-◌, ◌≤◌, List, [], ◌∷◌, length};
+ghost use Rattle.std.specs.Prelude.{◌≡◌, ◌+◌, ◌-◌, []};
 ghost use Rattle.edetector.specs.Units.{weights_in};
 ghost use Rattle.plantlog.specs.Format.{Fields, Table as InTable, Setup as InSetup, Alternative as InAlternative, Count as InCount, Rearm as InRearm, End as InEnd};
 ghost use Rattle.plantlog.specs.Written.{fields_judged, SaysTable, Wrote};

@@ -17,7 +17,7 @@ use super::super::wealth::{BET, Wealth};
 use super::phase::{Phase, Stake};
 use super::{Monitor, Reading};
 
-// A monitor stakes so many rounds at most.
+// After so many settled rounds a stake is refused.
 const MOST_ROUNDS: u32 = 1000000;
 
 // The ledger's step, the only place where a wealth meets a factor.

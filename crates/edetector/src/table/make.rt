@@ -1,5 +1,5 @@
 // Tables made of what a host hands over, or refused.
-ghost use Rattle.std.specs.Prelude.{◌≡◌, ◌^◌, ◌<◌, ◌≤◌, ◌↔◌, All, IsTrue, length, sum_by, take};
+ghost use Rattle.std.specs.Prelude.{◌≡◌, ◌^◌, ◌<◌, ◌≤◌, ◌↔◌, ◌-◌, All, IsTrue, length, sum_by, take, drop, replicate};
 ghost use Rattle.edetector.specs.Units.{weights_in};
 ghost use Rattle.edetector.specs.Tables.{table_fault};
 ghost use Rattle.edetector.specs.Weights.{MadeOf, held_weights};
@@ -26,6 +26,7 @@ fn total_of(weights: &[Weight]) -> u32
 fn padded(weights: &[Weight]) -> [Weight; 16]
     requires { length weights.now ≤ 16 }
     ensures front { take (length weights.now) result ≡ weights.now }
+    ensures behind { drop (length weights.now) result ≡ replicate (16 - length weights.now) (record { 0 = 0 }) }
     ensures room { length result ≡ 16 }
 {
     let mut held = [Weight(0); 16];

@@ -1,11 +1,10 @@
 // The calls of a reader. The receive buffer is zero after each, and a refused call leaves the reader as it was: each call says
 // so, as it is what each promises.
-ghost use Rattle.std.specs.Prelude.{◌≡◌, ℕ, ◌+◌, ◌-◌, ◌<◌, ◌≤◌, length, MatchResult};
+ghost use Rattle.std.specs.Prelude.{◌≡◌, ◌+◌, ◌-◌, ◌<◌, ◌≤◌, length, MatchResult};
 ghost use Rattle.plantlog.specs.Bytes.{zeros};
 ghost use Rattle.plantlog.specs.Results.{of_ok};
 ghost use Rattle.plantlog.specs.Views.{record_said, parsed_said};
-ghost use Rattle.plantlog.specs.Format.{kind_of};
-ghost use Rattle.plantlog.specs.Calls.{span, asked, next_in, no_count, only_count, next_count, next_other};
+ghost use Rattle.plantlog.specs.Calls.{span, asked, next_in, next_count, next_other};
 ghost use Rattle.plantlog.specs.Laws.{ReadBack, WrittenSo, LeftBehind, LogReadBack, LogWrittenSo, OneWriting};
 ghost use Rattle.plantlog.specs.Slips.{shown_to, fault_of};
 ghost use Rattle.plantlog.specs.Position.{position, log_of, left_in, behind, moved};

@@ -1,5 +1,5 @@
 // The numbers of a table to be written.
-ghost use Rattle.std.specs.Prelude.{◌≡◌, ℕ, ◌+◌, ◌≤◌, List, ◌∷◌, length};
+ghost use Rattle.std.specs.Prelude.{◌≡◌, ◌+◌, ◌≤◌, ◌∷◌, length};
 ghost use Rattle.edetector.specs.Units.{weights_in};
 
 use edetector::units::Weight;

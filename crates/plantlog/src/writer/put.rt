@@ -1,5 +1,5 @@
 // Numbers and records put into a buffer.
-ghost use Rattle.std.specs.Prelude.{◌≡◌, ℕ, ◌+◌, ◌-◌, ◌*◌, ◌≤◌, List, [], ◌∷◌, ◌++◌, length, drop};
+ghost use Rattle.std.specs.Prelude.{◌≡◌, ◌+◌, ◌-◌, ◌*◌, ◌≤◌, ◌∷◌, ◌++◌, length, drop};
 ghost use Rattle.plantlog.specs.Choices.{kind_number};
 ghost use Rattle.plantlog.specs.Format.{numbers_bytes, framed};
 ghost use Rattle.plantlog.specs.Laws.{Sayable};

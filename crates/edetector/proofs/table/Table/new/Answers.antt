@@ -36,6 +36,7 @@ invariant_of-result g c =
       some = omega arith;
       few = omega arith;
       room = c.padded.ensures.room;
+      behind = c.padded.ensures.behind;
       sums = ap total (padded_units ws c.padded.result c.padded.ensures.front) ∙ sym (units_total ws) ∙ sym c.total_of.ensures;
       heavy = omega arith;
       light = omega arith;
