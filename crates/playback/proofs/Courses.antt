@@ -11,6 +11,7 @@ use Rattle.edetector.specs.Rules.{bet}
 use Rattle.edetector.specs.Tables.{class_of}
 use Rattle.edetector.specs.Bettors.{Strategy}
 use Rattle.edetector.specs.Ledger.{Terms, Standing, outcome, staked, settled, rings, rearming}
+use Rattle.edetector.specs.States.{is_staked}
 use Rattle.edetector.specs.View.{standing}
 use Rattle.plantlog.specs.Format.{Fields, Table, Setup, Alternative, Count, Rearm, End}
 use Rattle.daybook.specs.declared.entry.unwatched.Unwatched.{Unwatched}
@@ -26,7 +27,7 @@ use Rattle.playback.specs.Watch.{Watch, Places, Done, faulted, counted, alarm_if
 use Rattle.playback.specs.Replaying.{Spot, behind, Finish, went, stopped, fault_at, at_end, watching}
 use Rattle.playback.specs.Course.{Event, Settled, Passed, Rearmed, after_event, after_all, alarm_of, alarms_of, unwatched_of, passed_in, day_of, days_of, RisingDays, last_day, free_in, free_after, Rightly, AllRightly, EventOf, NoCount, NotTaken, Reached, WholeCourse, HasWholeCourse}
 use Rattle.playback.proofs.Counting.{settled_fits}
-use Rattle.playback.proofs.Rounds.{has_free, none_free, spent, some_left, other_count, alarm_behind, armed_next}
+use Rattle.playback.proofs.Rounds.{has_free, none_free, spent, some_left, other_count, alarm_behind, heard_by, rearm_keeps, armed_next}
 
 -- nothing more happens
 no_event : (t : Terms) (p : Places) (s : Stream) (at : Spot) (w : Watch) (x : Option Fault) → Reached (free_in p w) w at s x → WholeCourse t p s at w (stopped w x)
@@ -38,6 +39,8 @@ no_event t p s at w x to = record {
   standing = refl;
   alarms = sym (append-nil w.alarms);
   unwatched = sym (append-nil w.unwatched);
+  heard = omega arith;
+  settled = omega arith;
   counts = omega arith;
   last = refl;
   reached = to;
@@ -54,6 +57,8 @@ record Leads (t : Terms) (p : Places) (f : Fields) (at : Spot) (w w1 : Watch) (e
   pub standing : w1.standing ≡ after_event t w.standing e
   pub alarms : w1.alarms ≡ w.alarms ++ alarm_of t w.standing e
   pub unwatched : w1.unwatched ≡ w.unwatched ++ passed_in e
+  pub heard : w1.standing.alarms ≡ w.standing.alarms + length (alarm_of t w.standing e)
+  pub settled : w1.standing.rounds + length (passed_in e) ≡ w.standing.rounds + length (day_of e)
   pub counts : w1.counts ≡ w.counts + length (day_of e)
   pub last : w1.last ≡ last_day w.last (day_of e)
   pub rising : RisingDays w.last (day_of e)
@@ -93,6 +98,8 @@ begins t p f n rest at w w1 end e l c =
       standing = c.standing ∙ ap (λ s. after_all t s c.events) l.standing;
       alarms = c.alarms ∙ ap₂ (λ a s. a ++ alarms_of t s c.events) l.alarms l.standing ∙ append_assoc w.alarms (alarm_of t w.standing e) (alarms_of t (after_event t w.standing e) c.events);
       unwatched = c.unwatched ∙ ap (λ u. u ++ unwatched_of c.events) l.unwatched ∙ append_assoc w.unwatched (passed_in e) (unwatched_of c.events);
+      heard = omega (arith, c.heard, l.heard, ap (λ s. length (alarms_of t s c.events)) l.standing, length-append (alarm_of t w.standing e) (alarms_of t (after_event t w.standing e) c.events));
+      settled = omega (arith, c.settled, l.settled, length-append (passed_in e) (unwatched_of c.events), length-append (day_of e) days);
       counts = omega (arith, c.counts, l.counts, length-append (day_of e) days);
       last = c.last ∙ ap (λ x. last_day x days) l.last ∙ last_on w.last e days;
       reached = c.reached;
@@ -130,6 +137,8 @@ module _ (t : Terms) (p : Places) (n : ℕ) (rest : Stream) (ih : (at : Spot) (w
           standing = sym next_is;
           alarms = alarm_behind rang day after ents ∙ ap (λ s. ents ++ alarm_if (leb (t.threshold * bet) s.ledger) day s []) (sym next_is);
           unwatched = sym (append-nil us);
+          heard = heard_by rang day after al ∙ ap (λ s. al + length (alarm_if (leb (t.threshold * bet) s.ledger) day s [])) (sym next_is);
+          settled = omega arith;
           counts = refl;
           last = refl;
           rising = (later, tt);
@@ -157,7 +166,7 @@ module _ (t : Terms) (p : Places) (n : ℕ) (rest : Stream) (ih : (at : Spot) (w
   rung_course w e later true room = stays w (Book Full) (later, rw e (none_free p.unwatched (length w.unwatched) room))
   rung_course w e later false room =
       let w1 = counted w day w.standing w.alarms (w.unwatched ++ (record { day = day; «record» = at.number } ∷ [])) in
-      let leads : Leads t p (Count day count) at w w1 (Passed day at.number) = record { of = (count, refl, refl); rightly = (e, has_free p.unwatched (length w.unwatched) room); standing = refl; alarms = sym (append-nil w.alarms); unwatched = refl; counts = refl; last = refl; rising = (later, tt) } in
+      let leads : Leads t p (Count day count) at w w1 (Passed day at.number) = record { of = (count, refl, refl); rightly = (e, has_free p.unwatched (length w.unwatched) room); standing = refl; alarms = sym (append-nil w.alarms); unwatched = refl; heard = omega arith; settled = refl; counts = refl; last = refl; rising = (later, tt) } in
       begins t p (Count day count) n rest at w w1 _ (Passed day at.number) leads (ih (behind at n) w1)
 
   in_state : (st : State) (m r al : ℕ) (row : List ℕ) (play : Strategy) (last : Option ℕ) (counts : ℕ) (ents : List AlarmView) (us : List Unwatched) → above last day ≡ true →
@@ -175,7 +184,9 @@ module _ (t : Terms) (p : Places) (n : ℕ) (rest : Stream) (ih : (at : Spot) (w
 
 module _ (t : Terms) (p : Places) (n : ℕ) (rest : Stream) (ih : (at : Spot) (w : Watch) → WholeCourse t p rest at w (watching t p rest at w)) (at : Spot) where
   rearms : (w w1 : Watch) → (w.standing.state ≡ Staked → ⊥) → w1 ≡ restood w (rearming t w.standing).after → Leads t p Rearm at w w1 Rearmed
-  rearms w w1 calm e = rw e (record { of = refl; rightly = calm; standing = refl; alarms = sym (append-nil w.alarms); unwatched = sym (append-nil w.unwatched); counts = omega arith; last = refl; rising = tt })
+  rearms w w1 calm e =
+      let same = rearm_keeps t w.standing (is_staked w.standing.state) in
+      rw e (record { of = refl; rightly = calm; standing = refl; alarms = sym (append-nil w.alarms); unwatched = sym (append-nil w.unwatched); heard = omega (arith, same.0); settled = omega (arith, same.1); counts = omega arith; last = refl; rising = tt })
 
   -- a rearm that is refused leaves the monitor as it was
   rearm_course : (st : State) (m r al : ℕ) (row : List ℕ) (play : Strategy) (last : Option ℕ) (counts : ℕ) (ents : List AlarmView) (us : List Unwatched) →

@@ -6,13 +6,13 @@ use Rattle.std.proofs.lemmas.Bool.Decides.{nat_tests}
 use Rattle.edetector.specs.declared.state.State.TheVariants.{Armed, Staked}
 use Rattle.edetector.specs.declared.slip.OpenSlip.{OpenSlip}
 use Rattle.edetector.specs.declared.fault.MonitorFault.{MonitorFault}
-use Rattle.edetector.specs.declared.fault.MonitorFault.TheVariants.{Spent, Misfit}
+use Rattle.edetector.specs.declared.fault.MonitorFault.TheVariants.{NotArmed, Spent, Misfit}
 use Rattle.edetector.specs.declared.fault.Refused.{Refused}
 use Rattle.edetector.specs.declared.slip.ShownSlip.{ShownSlip}
 use Rattle.edetector.specs.Plans.{next}
 use Rattle.edetector.specs.Tables.{class_of}
 use Rattle.edetector.specs.Bettors.{Strategy}
-use Rattle.edetector.specs.Ledger.{Terms, Standing, outcome, staked, settled, rings}
+use Rattle.edetector.specs.Ledger.{Terms, Standing, outcome, staked, settled, rings, rearmed}
 use Rattle.edetector.specs.View.{standing}
 use Rattle.daybook.specs.Entries.{AlarmView}
 use Rattle.playback.specs.Watch.{alarm_if}
@@ -48,6 +48,18 @@ unlike counts n differ false e = e
 pub alarm_behind : (b : Bool) (day : ℕ) (s : Standing) (ents : List AlarmView) → alarm_if b day s ents ≡ ents ++ alarm_if b day s []
 alarm_behind true day s ents = refl
 alarm_behind false day s ents = sym (append-nil ents)
+
+-- a round that rang is one alarm more
+pub heard_by : (b : Bool) (day : ℕ) (s : Standing) (al : ℕ) → cond b (al + 1) al ≡ al + length (alarm_if b day s [])
+heard_by true day s al = omega arith
+heard_by false day s al = omega arith
+
+-- a rearm, taken or not, is no round and no alarm
+pub rearm_keeps : (t : Terms) (s : Standing) (b : Bool) →
+    let o = cond b (outcome {X = Result (Unit {0}) MonitorFault} (Err NotArmed) s) (outcome (Ok tt) (rearmed s)) in
+    (o.after.alarms ≡ s.alarms) × (o.after.rounds ≡ s.rounds)
+rearm_keeps t s true = (refl, refl)
+rearm_keeps t s false = (refl, refl)
 
 -- what an armed monitor with rounds left does with a count
 pub armed_next : (t : Terms) (m r al : ℕ) (row : List ℕ) (play : Strategy) (day count : ℕ) → ltb r 1000000 ≡ true →

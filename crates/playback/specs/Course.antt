@@ -157,7 +157,8 @@ Reached free w at left (Some f) =
     ⊎ ((n : ℕ) × (rest : Stream) × (left ≡ Next (End w.counts) n rest) × (rest ≡ Over → ⊥) × (Some f ≡ fault_at (behind at n) Trailing))
 
 -- from w to a finish by events of the log's records: these are all that the monitor and the two books saw, and no record
--- is left out
+-- is left out. The monitor's own numbers agree with them: an alarm more for each that was entered, and a round more for
+-- each count that was not passed over
 pub record WholeCourse (t : Terms) (p : Places) (s : Stream) (at : Spot) (w : Watch) (f : Finish) : Type 0 where
   pub events : List Event
   pub of_log : EventsOf events s at
@@ -166,6 +167,8 @@ pub record WholeCourse (t : Terms) (p : Places) (s : Stream) (at : Spot) (w : Wa
   pub standing : f.watch.standing ≡ after_all t w.standing events
   pub alarms : f.watch.alarms ≡ w.alarms ++ alarms_of t w.standing events
   pub unwatched : f.watch.unwatched ≡ w.unwatched ++ unwatched_of events
+  pub heard : f.watch.standing.alarms ≡ w.standing.alarms + length (alarms_of t w.standing events)
+  pub settled : f.watch.standing.rounds + length (unwatched_of events) ≡ w.standing.rounds + length (days_of events)
   pub counts : f.watch.counts ≡ w.counts + length (days_of events)
   pub last : f.watch.last ≡ last_day w.last (days_of events)
   pub reached : Reached (free_in p f.watch) f.watch (spot_behind events s at) (behind_all events s) f.fault
