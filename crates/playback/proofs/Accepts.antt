@@ -2,6 +2,7 @@
 use Rattle.std.proofs.Common.{◌≡◌, ℕ, zero, suc, ◌+◌, ◌≤◌, Bool, true, false, cond, eqb, leb, List, [], ◌∷◌, length, get_or, Fits, w8, None, Some, IfOk, Ok, Err, Option, Result, sym, refl, ap, ◌∙◌, subst, not-suc-le-zero, arith}
 use Rattle.std.proofs.lemmas.List.{append-nil}
 use Rattle.std.proofs.lemmas.Bool.{eqb-true}
+use Rattle.std.proofs.lemmas.Bool.Decides.{nat_tests}
 use Rattle.edetector.specs.declared.value.ValueFault.TheVariants.{Alternative as UnlikeClasses, Threshold}
 use Rattle.edetector.specs.Tables.{from_to}
 use Rattle.edetector.specs.Bettors.{Strategy}
@@ -61,11 +62,12 @@ reads_by (suc n) (b ∷ bs) fs short says =
     reads_on n (span (b ∷ bs)) b bs (λ rest gs s y. reads_by n rest gs s y) (omega (arith, short)) (first_record (b ∷ bs)) fs refl says
 
 -- a log that says the records of a log is their writing
-written : (log : List ℕ) (fs : List Fields) → Bytes log → Says (stream_of log) fs → LogRecords fs → Accepted log
-written log fs bytes says ordered =
+written : (log : List ℕ) (fs : List Fields) → Bytes log → length log ≤ 65536 → Says (stream_of log) fs → LogRecords fs → Accepted log
+written log fs bytes short says ordered =
     let read = reads_by (length log) log fs (omega arith) says in
     let so = log_written_so (length fs) log fs [] bytes read in
     record {
+      short = short;
       records = fs;
       ordered = ordered;
       writable = so.1;
@@ -169,11 +171,15 @@ whole_by : (log : List ℕ) (rest : Rest) (b : Bool) → Ok rest ≡ cond b (Ok 
 whole_by log rest true e = cc
 whole_by log rest false e = cc
 
+not_too_long : (log : List ℕ) (rest : Rest) (b : Bool) → leb (length log) 65536 ≡ b → Ok rest ≡ cond b (Ok (whole log)) (at_spot (record { number = 0; byte = 0 }) (Err TooLong)) → length log ≤ 65536
+not_too_long log rest true fits e = grind (arith, nat_tests)
+not_too_long log rest false fits e = cc
+
 -- what is reported of a log without a fault
 pub accepted : (r : Result Run Fault) (alarms : Book Alarm) (unwatched : Book Unwatched) (p : Places) (log : List ℕ) (rest : Rest) → Ok rest ≡ taken_whole log → ((i : ℕ) → Fits w8 (get_or log i 0)) →
     replay_told r alarms unwatched ≡ replayed p (stream_of rest.left) rest.at → IfOk r (λ run. run.fault ≡ None → Accepted log)
 accepted (Ok run) alarms unwatched p log rest is fits told = λ none.
     let told_whole = told ∙ ap (λ (x : Rest). replayed p (stream_of x.left) x.at) (whole_by log rest (leb (length log) 65536) is) in
     let l = by_table p (stream_of log) (record { number = 1; byte = 0 }) (subst (λ (x : Replay). NoFault x.said) told_whole none) in
-    written log l.0 (bytes_of log fits) l.1 l.2
+    written log l.0 (bytes_of log fits) (not_too_long log rest (leb (length log) 65536) refl is) l.1 l.2
 accepted (Err f) alarms unwatched p log rest is fits told = tt

@@ -1,5 +1,5 @@
 -- What a log says that is replayed without a fault.
-use Rattle.std.specs.Prelude.{◌≡◌, ℕ, ◌+◌, true, false, List, [], ◌∷◌, length, Some, None, Option}
+use Rattle.std.specs.Prelude.{◌≡◌, ℕ, ◌+◌, ◌≤◌, true, false, List, [], ◌∷◌, length, Some, None, Option}
 use Rattle.plantlog.specs.declared.record.BettorChoice.{BettorChoice}
 use Rattle.plantlog.specs.Format.{Fields, Table, Setup, Alternative, Count, Rearm, End}
 use Rattle.plantlog.specs.Laws.{AllWritable, log_bytes}
@@ -25,8 +25,9 @@ abbrev pub LogRecords : List Fields → Type 0
 LogRecords (Table ws ∷ Setup threshold rule bettor ∷ fs) = AfterSetup (length ws) (bettor_named bettor) fs
 LogRecords _ = ⊥
 
--- the log is the writing of such records, and of no others
+-- the log is not too long, and it is the writing of such records, and of no others
 pub record Accepted (log : List ℕ) : Type 0 where
+  pub short : length log ≤ 65536
   pub records : List Fields
   pub ordered : LogRecords records
   pub writable : AllWritable records
