@@ -25,7 +25,7 @@ use Rattle.playback.specs.Accepted.{WatchedRecords, AfterSetup, LogRecords, Acce
 use Rattle.playback.specs.Course.{Event, Settled, Passed, Rearmed, days_of, RisingDays, free_in, EventsOf, behind_all, spot_behind, Reached}
 use Rattle.plantlog.specs.declared.record.Setup.{Setup as SetupValue}
 use Rattle.playback.specs.Front.{rule_named, bettor_named}
-use Rattle.playback.specs.Replayed.{Said, Unmade, Made, Replay, begun, finished, no_monitor, monitored, play_of, has_alternative, alternative_of, third, after_table, replayed, head_of}
+use Rattle.playback.specs.Replayed.{Said, Unmade, Made, Replay, begun, finished, no_monitor, with_record, monitored, play_of, has_alternative, alternative_of, after_table, replayed, head_of}
 use Rattle.playback.specs.Replaying.{Spot, behind, watching}
 use Rattle.playback.specs.Stream.{Stream, Over, Broken, Next, opened, stream_by, stream_of}
 use Rattle.playback.specs.Rest.{Rest, whole, at_spot, taken_whole}
@@ -118,6 +118,9 @@ module _ (p : Places) (ws : List ℕ) (x : SetupValue) where
   made : (play : Strategy) (rest : Stream) (at : Spot) → NoFault (monitored p ws x play rest at).said → Left None 0 rest
   made play rest at none = made_by _ play rest at (from_to 1 4096 x.threshold) none
 
+  abbrev plays_by : List ℕ → Stream → Spot → Replay
+  plays_by alts = monitored p ws x (play_of x.bettor ws alts)
+
   abbrev Behind : Stream → Type 0
   Behind s = (fs : List Fields) × Says s fs × AfterSetup (length ws) x.bettor fs
 
@@ -133,18 +136,18 @@ module _ (p : Places) (ws : List ℕ) (x : SetupValue) where
 
   by_classes : (alts : List ℕ) (n : ℕ) (rest : Stream) (at : Spot) → (has_alternative x.bettor ≡ true) → (b : Bool) → eqb (length alts) (length ws) ≡ b →
       let s = Next (Alternative alts) n rest in
-      NoFault (third p ws x s at (cond b (Ok alts) (Err (Value UnlikeClasses)))).said → Behind s
+      NoFault (with_record (cond b (Ok alts) (Err (Value UnlikeClasses))) s at plays_by).said → Behind s
   by_classes alts n rest at other true same none =
       let l = made (play_of x.bettor ws alts) rest (behind at n) none in
       (Alternative alts ∷ l.records, (refl, l.says), (other, eqb-true (length alts) (length ws) same, l.ordered))
   by_classes alts n rest at other false same none = absurd none
 
-  by_alternative : (s : Stream) (at : Spot) → (has_alternative x.bettor ≡ true) → NoFault (third p ws x s at (alternative_of ws (head_of s))).said → Behind s
+  by_alternative : (s : Stream) (at : Spot) → (has_alternative x.bettor ≡ true) → NoFault (with_record (alternative_of ws (head_of s)) s at plays_by).said → Behind s
   by_alternative (Next (Alternative alts) n rest) at other none = by_classes alts n rest at other (eqb (length alts) (length ws)) refl none
   by_alternative _ at other none = absurd none
 
   by_bettor : (s : Stream) (at : Spot) (b : Bool) → has_alternative x.bettor ≡ b →
-      NoFault (cond b (third p ws x s at (alternative_of ws (head_of s))) (monitored p ws x (play_of x.bettor ws []) s at)).said → Behind s
+      NoFault (cond b (with_record (alternative_of ws (head_of s)) s at plays_by) (monitored p ws x (play_of x.bettor ws []) s at)).said → Behind s
   by_bettor s at true has none = by_alternative s at has none
   by_bettor s at false has none =
       let l = made (play_of x.bettor ws []) s at none in

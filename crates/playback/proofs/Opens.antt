@@ -21,7 +21,7 @@ use Rattle.playback.specs.Stream.{Stream, stream_of}
 use Rattle.playback.specs.Watch.{Places}
 use Rattle.playback.specs.Replaying.{Spot, behind}
 use Rattle.playback.specs.Rest.{Rest, at_spot, behind_record}
-use Rattle.playback.specs.Replayed.{Replay, Unmade, rest_of, taken_of, monitored, play_of, has_alternative, as_many, alternative_of, alternative_for, third, after_setup, second, after_table, first, replayed}
+use Rattle.playback.specs.Replayed.{Replay, Unmade, head_of, taken_of, tail_of, with_record, monitored, play_of, has_alternative, as_many, alternative_of, alternative_for, after_setup, after_table, replayed}
 use Rattle.playback.specs.Told.{replay_told}
 use Rattle.playback.proofs.Steps.{streams, head_is}
 
@@ -37,56 +37,62 @@ at_spot_ok at (Ok y) x e = let same : x ≡ y = cc in ap Ok same
 at_spot_ok at (Err c) x e = cc
 
 -- where a record of the header is refused the replay is over
-at_spot_err : {X : Type 0} (at : Spot) (go : Result X ReplayFault → Replay) → ((c : ReplayFault) → unmade (record { cause = c; «record» = at.number; byte = at.byte }) ≡ go (Err c)) →
-    (r : Result X ReplayFault) (f : Fault) → Err f ≡ at_spot at r → unmade f ≡ go r
-at_spot_err at go stops (Ok y) f e = cc
-at_spot_err at go stops (Err c) f e = let same : f ≡ record { cause = c; «record» = at.number; byte = at.byte } = cc in ap unmade same ∙ stops c
+refused_by : {X : Type 0} (s : Stream) (at : Spot) (go : X → Stream → Spot → Replay) (r : Result X ReplayFault) (f : Fault) → Err f ≡ at_spot at r → unmade f ≡ with_record r s at go
+refused_by s at go (Ok y) f e = cc
+refused_by s at go (Err c) f e = let same : f ≡ record { cause = c; «record» = at.number; byte = at.byte } = cc in ap unmade same
 
 accepted_by : {X Y : Type 0} (r : Result X ReplayFault) (go : X → Result Y ReplayFault) (y : Y) → Ok y ≡ and_then r go → (x : X) × (r ≡ Ok x)
 accepted_by (Ok x) go y e = (x, refl)
 accepted_by (Err f) go y e = cc
 
+-- a record of the header, by what the next record says
+module _ {X : Type 0} (rest : Rest) (of : Result Fields ReplayFault → Result X ReplayFault) (go : X → Stream → Spot → Replay) where
+  by_next : with_record (of (next_fields rest.left)) (stream_of rest.left) rest.at go ≡ with_record (of (head_of (stream_of rest.left))) (stream_of rest.left) rest.at go
+  by_next = ap (λ r. with_record (of r) (stream_of rest.left) rest.at go) (sym (head_is rest.left))
+
+  refused : (f : Fault) → Err f ≡ at_spot rest.at (of (next_fields rest.left)) → unmade f ≡ with_record (of (head_of (stream_of rest.left))) (stream_of rest.left) rest.at go
+  refused f e = refused_by (stream_of rest.left) rest.at go (of (next_fields rest.left)) f e ∙ by_next
+
+  goes_on : (rest' : Rest) → rest' ≡ behind_record rest → (x : X) (f : Fields) → next_fields rest.left ≡ Ok f → Ok x ≡ of (next_fields rest.left) →
+      go x (stream_of rest'.left) rest'.at ≡ with_record (of (head_of (stream_of rest.left))) (stream_of rest.left) rest.at go
+  goes_on rest' past x f said read =
+      let next = streams rest.left f said in
+      ap (λ r. go x (stream_of r.left) r.at) past ∙ ap (λ s. go x (tail_of s) (behind rest.at (taken_of s))) (sym next)
+      ∙ ap (λ r. with_record r (stream_of rest.left) rest.at go) read ∙ by_next
+
 module _ (p : Places) (rest : Rest) where
-  -- the header by the next record
-  is_first : first p (stream_of rest.left) rest.at (and_then (next_fields rest.left) only_table) ≡ replayed p (stream_of rest.left) rest.at
-  is_first = ap (λ r. first p (stream_of rest.left) rest.at (and_then r only_table)) (sym (head_is rest.left))
+  abbrev plays_by : List ℕ → Setup → List ℕ → Stream → Spot → Replay
+  plays_by ws x alts = monitored p ws x (play_of x.bettor ws alts)
 
-  is_second : (ws : List ℕ) → second p ws (stream_of rest.left) rest.at (and_then (next_fields rest.left) only_setup) ≡ after_table p ws (stream_of rest.left) rest.at
-  is_second ws = ap (λ r. second p ws (stream_of rest.left) rest.at (and_then r only_setup)) (sym (head_is rest.left))
-
-  is_third : (ws : List ℕ) (x : Setup) → has_alternative x.bettor ≡ true → third p ws x (stream_of rest.left) rest.at (alternative_for ws rest.left) ≡ after_setup p ws x (stream_of rest.left) rest.at
-  is_third ws x other = ap (λ r. third p ws x (stream_of rest.left) rest.at (alternative_of ws r)) (sym (head_is rest.left)) ∙ rw other refl
+  is_third : (ws : List ℕ) (x : Setup) → has_alternative x.bettor ≡ true →
+      with_record (alternative_of ws (head_of (stream_of rest.left))) (stream_of rest.left) rest.at (plays_by ws x) ≡ after_setup p ws x (stream_of rest.left) rest.at
+  is_third ws x other = rw other refl
 
   pub first_refused : (f : Fault) → Err f ≡ at_spot rest.at (and_then (next_fields rest.left) only_table) → unmade f ≡ replayed p (stream_of rest.left) rest.at
-  first_refused f e = at_spot_err rest.at (first p (stream_of rest.left) rest.at) (λ c. refl) _ f e ∙ is_first
+  first_refused f e = refused rest (λ r. and_then r only_table) (after_table p) f e
 
   pub second_refused : (ws : List ℕ) (f : Fault) → Err f ≡ at_spot rest.at (and_then (next_fields rest.left) only_setup) → unmade f ≡ after_table p ws (stream_of rest.left) rest.at
-  second_refused ws f e = at_spot_err rest.at (second p ws (stream_of rest.left) rest.at) (λ c. refl) _ f e ∙ is_second ws
+  second_refused ws f e = refused rest (λ r. and_then r only_setup) (after_setup p ws) f e
 
   pub third_refused : (ws : List ℕ) (x : Setup) (f : Fault) → has_alternative x.bettor ≡ true → Err f ≡ at_spot rest.at (alternative_for ws rest.left) → unmade f ≡ after_setup p ws x (stream_of rest.left) rest.at
-  third_refused ws x f other e = at_spot_err rest.at (third p ws x (stream_of rest.left) rest.at) (λ c. refl) _ f e ∙ is_third ws x other
+  third_refused ws x f other e = refused rest (alternative_of ws) (plays_by ws x) f e ∙ is_third ws x other
 
   -- the adaptive bettor needs no alternative
   pub goes_adaptive : (ws : List ℕ) (x : Setup) (play : Strategy) → x.bettor ≡ Adaptive → play ≡ adaptive ws (no_tally (length ws)) → monitored p ws x play (stream_of rest.left) rest.at ≡ after_setup p ws x (stream_of rest.left) rest.at
   goes_adaptive ws x play is plays = rw (is, plays) refl
 
   module _ (rest' : Rest) (past : rest' ≡ behind_record rest) where
-    goes_on : (go : Stream → Spot → Replay) (f : Fields) → next_fields rest.left ≡ Ok f → go (stream_of rest'.left) rest'.at ≡ go (rest_of (stream_of rest.left)) (behind rest.at (taken_of (stream_of rest.left)))
-    goes_on go f e =
-        let next = streams rest.left f e in
-        ap (λ r. go (stream_of r.left) r.at) past ∙ ap (λ s. go (rest_of s) (behind rest.at (taken_of s))) (sym next)
-
     pub first_taken : (ws : List ℕ) → Ok ws ≡ at_spot rest.at (and_then (next_fields rest.left) only_table) → after_table p ws (stream_of rest'.left) rest'.at ≡ replayed p (stream_of rest.left) rest.at
     first_taken ws e =
         let read = at_spot_ok rest.at _ ws e in
         let f = accepted_by (next_fields rest.left) only_table ws read in
-        goes_on (after_table p ws) f.0 f.1 ∙ ap (first p (stream_of rest.left) rest.at) read ∙ is_first
+        goes_on rest (λ r. and_then r only_table) (after_table p) rest' past ws f.0 f.1 read
 
     pub second_taken : (ws : List ℕ) (x : Setup) → Ok x ≡ at_spot rest.at (and_then (next_fields rest.left) only_setup) → after_setup p ws x (stream_of rest'.left) rest'.at ≡ after_table p ws (stream_of rest.left) rest.at
     second_taken ws x e =
         let read = at_spot_ok rest.at _ x e in
         let f = accepted_by (next_fields rest.left) only_setup x read in
-        goes_on (after_setup p ws x) f.0 f.1 ∙ ap (second p ws (stream_of rest.left) rest.at) read ∙ is_second ws
+        goes_on rest (λ r. and_then r only_setup) (after_setup p ws) rest' past x f.0 f.1 read
 
     -- an alternative with as many classes
     pub third_taken : (ws : List ℕ) (x : Setup) (alts : List ℕ) (play : Strategy) → has_alternative x.bettor ≡ true → Ok alts ≡ at_spot rest.at (alternative_for ws rest.left) → play ≡ play_of x.bettor ws alts →
@@ -95,8 +101,8 @@ module _ (p : Places) (rest : Rest) where
         let read = at_spot_ok rest.at _ alts e in
         let said = accepted_by (and_then (next_fields rest.left) only_alternative) (as_many ws) alts read in
         let f = accepted_by (next_fields rest.left) only_alternative said.0 (sym said.1) in
-        ap (λ q. monitored p ws x q (stream_of rest'.left) rest'.at) plays ∙ goes_on (monitored p ws x (play_of x.bettor ws alts)) f.0 f.1
-        ∙ ap (third p ws x (stream_of rest.left) rest.at) read ∙ is_third ws x other
+        ap (λ q. monitored p ws x q (stream_of rest'.left) rest'.at) plays
+        ∙ goes_on rest (alternative_of ws) (plays_by ws x) rest' past alts f.0 f.1 read ∙ is_third ws x other
 
 -- behind a table and a setup
 pub header_taken : (p : Places) (rest rest1 rest2 : Rest) → rest1 ≡ behind_record rest → rest2 ≡ behind_record rest1 → (ws : List ℕ) (x : Setup) →

@@ -50,14 +50,19 @@ taken_of Over = 0
 taken_of (Broken e) = 0
 taken_of (Next f n rest) = n
 
-abbrev pub rest_of : Stream → Stream
-rest_of Over = Over
-rest_of (Broken e) = Over
-rest_of (Next f n rest) = rest
+abbrev pub tail_of : Stream → Stream
+tail_of Over = Over
+tail_of (Broken e) = Over
+tail_of (Next f n rest) = rest
 
 -- a fault before the monitor is made
 abbrev pub no_monitor : Spot → ReplayFault → Replay
 no_monitor at cause = record { said = Unmade (record { cause = cause; «record» = at.number; byte = at.byte }); alarms = []; unwatched = [] }
+
+-- what follows the next record with what it says, or the fault where it begins
+abbrev pub with_record : {X : Type 0} → Result X ReplayFault → Stream → Spot → (X → Stream → Spot → Replay) → Replay
+with_record (Ok x) s at go = go x (tail_of s) (behind at (taken_of s))
+with_record (Err f) s at go = no_monitor at f
 
 -- nothing counted yet, and both books empty
 abbrev pub begun : Strategy → Watch
@@ -98,31 +103,19 @@ alternative_of ws head = and_then (and_then head only_alternative) (as_many ws)
 abbrev pub alternative_for : List ℕ → List ℕ → Result (List ℕ) ReplayFault
 alternative_for ws left = alternative_of ws (next_fields left)
 
--- a third record, if the bettor has one, and what follows it
-abbrev pub third : Places → List ℕ → Setup → Stream → Spot → Result (List ℕ) ReplayFault → Replay
-third p ws x s at (Ok alts) = monitored p ws x (play_of x.bettor ws alts) (rest_of s) (behind at (taken_of s))
-third p ws x s at (Err f) = no_monitor at f
-
 -- an alternative comes next exactly if the bettor has one
 abbrev pub after_setup : Places → List ℕ → Setup → Stream → Spot → Replay
 after_setup p ws x s at =
-    if has_alternative x.bettor then third p ws x s at (alternative_of ws (head_of s)) else monitored p ws x (play_of x.bettor ws []) s at
+    if has_alternative x.bettor then with_record (alternative_of ws (head_of s)) s at (λ alts. monitored p ws x (play_of x.bettor ws alts))
+    else monitored p ws x (play_of x.bettor ws []) s at
 
 -- a setup, and what follows it
-abbrev pub second : Places → List ℕ → Stream → Spot → Result Setup ReplayFault → Replay
-second p ws s at (Ok x) = after_setup p ws x (rest_of s) (behind at (taken_of s))
-second p ws s at (Err f) = no_monitor at f
-
 abbrev pub after_table : Places → List ℕ → Stream → Spot → Replay
-after_table p ws s at = second p ws s at (and_then (head_of s) only_setup)
+after_table p ws s at = with_record (and_then (head_of s) only_setup) s at (after_setup p ws)
 
 -- a table, and what follows it
-abbrev pub first : Places → Stream → Spot → Result (List ℕ) ReplayFault → Replay
-first p s at (Ok ws) = after_table p ws (rest_of s) (behind at (taken_of s))
-first p s at (Err f) = no_monitor at f
-
 abbrev pub replayed : Places → Stream → Spot → Replay
-replayed p s at = first p s at (and_then (head_of s) only_table)
+replayed p s at = with_record (and_then (head_of s) only_table) s at (after_table p)
 
 -- a log of at most 65,536 bytes is replayed from its first record
 abbrev pub replay_of : Places → List ℕ → Replay
