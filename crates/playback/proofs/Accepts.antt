@@ -26,9 +26,9 @@ use Rattle.playback.specs.Course.{Event, Settled, Passed, Rearmed, days_of, Risi
 use Rattle.plantlog.specs.declared.record.Setup.{Setup as SetupValue}
 use Rattle.playback.specs.Front.{rule_named, bettor_named}
 use Rattle.playback.specs.Replayed.{Said, Unmade, Made, Replay, begun, finished, no_monitor, with_record, monitored, play_of, has_alternative, alternative_of, after_table, replayed, head_of}
-use Rattle.playback.specs.Replaying.{Spot, behind, watching}
+use Rattle.playback.specs.Replaying.{Spot, longest, first_spot, nowhere, behind, fault_in, watching}
 use Rattle.playback.specs.Stream.{Stream, Over, Broken, Next, opened, stream_by, stream_of}
-use Rattle.playback.specs.Rest.{Rest, whole, at_spot, taken_whole}
+use Rattle.playback.specs.Rest.{Rest, whole, taken_whole}
 use Rattle.playback.specs.Told.{replay_told}
 use Rattle.playback.specs.Watch.{Watch, Places}
 use Rattle.playback.proofs.OneReading.{only_records}
@@ -62,7 +62,7 @@ reads_by (suc n) (b ∷ bs) fs short says =
     reads_on n (span (b ∷ bs)) b bs (λ rest gs s y. reads_by n rest gs s y) (omega (arith, short)) (first_record (b ∷ bs)) fs refl says
 
 -- a log that says the records of a log is their writing
-written : (log : List ℕ) (fs : List Fields) → Bytes log → length log ≤ 65536 → Says (stream_of log) fs → LogRecords fs → Accepted log
+written : (log : List ℕ) (fs : List Fields) → Bytes log → length log ≤ longest → Says (stream_of log) fs → LogRecords fs → Accepted log
 written log fs bytes short says ordered =
     let read = reads_by (length log) log fs (omega arith) says in
     let so = log_written_so (length fs) log fs [] bytes read in
@@ -170,11 +170,11 @@ bytes_of : (bs : List ℕ) → ((i : ℕ) → Fits w8 (get_or bs i 0)) → Bytes
 bytes_of [] fits = tt
 bytes_of (b ∷ bs) fits = ((fits 0).fits, bytes_of bs (λ i. fits (suc i)))
 
-whole_by : (log : List ℕ) (rest : Rest) (b : Bool) → Ok rest ≡ cond b (Ok (whole log)) (at_spot (record { number = 0; byte = 0 }) (Err TooLong)) → rest ≡ whole log
+whole_by : (log : List ℕ) (rest : Rest) (b : Bool) → Ok rest ≡ cond b (Ok (whole log)) (Err (fault_in nowhere TooLong)) → rest ≡ whole log
 whole_by log rest true e = cc
 whole_by log rest false e = cc
 
-not_too_long : (log : List ℕ) (rest : Rest) (b : Bool) → leb (length log) 65536 ≡ b → Ok rest ≡ cond b (Ok (whole log)) (at_spot (record { number = 0; byte = 0 }) (Err TooLong)) → length log ≤ 65536
+not_too_long : (log : List ℕ) (rest : Rest) (b : Bool) → leb (length log) longest ≡ b → Ok rest ≡ cond b (Ok (whole log)) (Err (fault_in nowhere TooLong)) → length log ≤ longest
 not_too_long log rest true fits e = grind (arith, nat_tests)
 not_too_long log rest false fits e = cc
 
@@ -182,7 +182,7 @@ not_too_long log rest false fits e = cc
 pub accepted : (r : Result Run Fault) (alarms : Book Alarm) (unwatched : Book Unwatched) (p : Places) (log : List ℕ) (rest : Rest) → Ok rest ≡ taken_whole log → ((i : ℕ) → Fits w8 (get_or log i 0)) →
     replay_told r alarms unwatched ≡ replayed p (stream_of rest.left) rest.at → IfOk r (λ run. run.fault ≡ None → Accepted log)
 accepted (Ok run) alarms unwatched p log rest is fits told = λ none.
-    let told_whole = told ∙ ap (λ (x : Rest). replayed p (stream_of x.left) x.at) (whole_by log rest (leb (length log) 65536) is) in
-    let l = by_table p (stream_of log) (record { number = 1; byte = 0 }) (subst (λ (x : Replay). NoFault x.said) told_whole none) in
-    written log l.0 (bytes_of log fits) (not_too_long log rest (leb (length log) 65536) refl is) l.1 l.2
+    let told_whole = told ∙ ap (λ (x : Rest). replayed p (stream_of x.left) x.at) (whole_by log rest (leb (length log) longest) is) in
+    let l = by_table p (stream_of log) first_spot (subst (λ (x : Replay). NoFault x.said) told_whole none) in
+    written log l.0 (bytes_of log fits) (not_too_long log rest (leb (length log) longest) refl is) l.1 l.2
 accepted (Err f) alarms unwatched p log rest is fits told = tt

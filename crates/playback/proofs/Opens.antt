@@ -19,7 +19,7 @@ use Rattle.playback.specs.Front.{next_fields, only_table, only_setup, only_alter
 use Rattle.playback.specs.Held.{NothingYet}
 use Rattle.playback.specs.Stream.{Stream, stream_of}
 use Rattle.playback.specs.Watch.{Places}
-use Rattle.playback.specs.Replaying.{Spot, behind}
+use Rattle.playback.specs.Replaying.{Spot, behind, fault_in}
 use Rattle.playback.specs.Rest.{Rest, at_spot, behind_record}
 use Rattle.playback.specs.Replayed.{Replay, Unmade, head_of, taken_of, tail_of, with_record, monitored, play_of, has_alternative, as_many, alternative_of, alternative_for, after_setup, after_table, replayed}
 use Rattle.playback.specs.Told.{replay_told}
@@ -39,7 +39,7 @@ at_spot_ok at (Err c) x e = cc
 -- where a record of the header is refused the replay is over
 refused_by : {X : Type 0} (s : Stream) (at : Spot) (go : X → Stream → Spot → Replay) (r : Result X ReplayFault) (f : Fault) → Err f ≡ at_spot at r → unmade f ≡ with_record r s at go
 refused_by s at go (Ok y) f e = cc
-refused_by s at go (Err c) f e = let same : f ≡ record { cause = c; «record» = at.number; byte = at.byte } = cc in ap unmade same
+refused_by s at go (Err c) f e = let same : f ≡ fault_in at c = cc in ap unmade same
 
 accepted_by : {X Y : Type 0} (r : Result X ReplayFault) (go : X → Result Y ReplayFault) (y : Y) → Ok y ≡ and_then r go → (x : X) × (r ≡ Ok x)
 accepted_by (Ok x) go y e = (x, refl)

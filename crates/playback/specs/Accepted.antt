@@ -6,6 +6,7 @@ use Rattle.plantlog.specs.Laws.{AllWritable, log_bytes}
 use Rattle.daybook.specs.Books.{above}
 use Rattle.playback.specs.Front.{bettor_named}
 use Rattle.playback.specs.Replayed.{has_alternative}
+use Rattle.playback.specs.Replaying.{longest}
 
 -- behind so many counts, the last of a day: counts whose days rise, and rearms, in any number, then one end, which names
 -- how many counts there were
@@ -27,7 +28,7 @@ LogRecords _ = ⊥
 
 -- the log is not too long, and it is the writing of such records, and of no others
 pub record Accepted (log : List ℕ) : Type 0 where
-  pub short : length log ≤ 65536
+  pub short : length log ≤ longest
   pub records : List Fields
   pub ordered : LogRecords records
   pub writable : AllWritable records

@@ -2,6 +2,7 @@
 use Rattle.std.specs.Prelude.{◌≡◌, ◌≤◌, length, ◌+◌}
 use Rattle.plantlog.specs.Position.{position, log_of, left_in}
 use Rattle.playback.specs.declared.records.Records.TheInside.{Inside}
+use Rattle.playback.specs.Replaying.{longest}
 use Rattle.playback.specs.Rest.{Rest}
 
 abbrev pub rest_of : Inside → Rest
@@ -10,5 +11,5 @@ rest_of r = record { left = left_in r.reader; at = record { number = (position r
 -- the log is whole and not too long, and no more counts than records were moved past
 pub record IsLog (r : Inside) : Type 0 where
   pub whole : r.len ≡ length (log_of r.reader)
-  pub short : r.len ≤ 65536
+  pub short : r.len ≤ longest
   pub fewer : r.progress.counts ≤ (position r.reader).records

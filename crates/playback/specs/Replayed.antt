@@ -22,7 +22,7 @@ use Rattle.daybook.specs.Entries.{AlarmView}
 use Rattle.playback.specs.Front.{next_fields, only_table, only_setup, only_alternative}
 use Rattle.playback.specs.Stream.{Stream, Over, Broken, Next, stream_of}
 use Rattle.playback.specs.Watch.{Watch, Places}
-use Rattle.playback.specs.Replaying.{Spot, behind, Finish, watching}
+use Rattle.playback.specs.Replaying.{Spot, longest, first_spot, nowhere, behind, fault_in, Finish, watching}
 
 -- what is told of a replay: a fault with no monitor, or the monitor's classes, total, threshold and rule,
 -- how it stands at last, and the fault if there was one
@@ -57,7 +57,7 @@ tail_of (Next f n rest) = rest
 
 -- a fault before the monitor is made
 abbrev pub no_monitor : Spot → ReplayFault → Replay
-no_monitor at cause = record { said = Unmade (record { cause = cause; «record» = at.number; byte = at.byte }); alarms = []; unwatched = [] }
+no_monitor at cause = record { said = Unmade (fault_in at cause); alarms = []; unwatched = [] }
 
 -- what follows the next record with what it says, or the fault where it begins
 abbrev pub with_record : {X : Type 0} → Result X ReplayFault → Stream → Spot → (X → Stream → Spot → Replay) → Replay
@@ -120,4 +120,4 @@ replayed p s at = with_record (and_then (head_of s) only_table) s at (after_tabl
 -- a log of at most 65,536 bytes is replayed from its first record
 abbrev pub replay_of : Places → List ℕ → Replay
 replay_of p log =
-    if nat_le (length log) 65536 then replayed p (stream_of log) (record { number = 1; byte = 0 }) else no_monitor (record { number = 0; byte = 0 }) TooLong
+    if nat_le (length log) longest then replayed p (stream_of log) first_spot else no_monitor nowhere TooLong

@@ -10,11 +10,26 @@ pub use Rattle.playback.specs.declared.spot.Spot.{Spot}
 use Rattle.playback.specs.Stream.{Stream, Over, Broken, Next}
 use Rattle.playback.specs.Watch.{Watch, Places, count_read, rearm_read, end_read}
 
+-- the bytes that a log has at most
+abbrev pub longest : ℕ
+longest = 65536
+
+-- where a log begins, and where no record is
+abbrev pub first_spot : Spot
+first_spot = record { number = 1; byte = 0 }
+
+abbrev pub nowhere : Spot
+nowhere = record { number = 0; byte = 0 }
+
 abbrev pub behind : Spot → ℕ → Spot
 behind at taken = record { number = at.number + 1; byte = at.byte + taken }
 
+-- the fault of a cause at a spot
+abbrev pub fault_in : Spot → ReplayFault → Fault
+fault_in at cause = record { cause = cause; «record» = at.number; byte = at.byte }
+
 abbrev pub fault_at : Spot → ReplayFault → Option Fault
-fault_at at cause = Some (record { cause = cause; «record» = at.number; byte = at.byte })
+fault_at at cause = Some (fault_in at cause)
 
 -- where the monitor and the books stand at the end, and the fault if there was one
 pub record Finish : Type 0 where

@@ -4,7 +4,7 @@ use Rattle.plantlog.specs.Calls.{span}
 use Rattle.playback.specs.declared.stop.Fault.{Fault}
 use Rattle.playback.specs.declared.stop.ReplayFault.{ReplayFault}
 use Rattle.playback.specs.declared.stop.ReplayFault.TheVariants.{TooLong}
-use Rattle.playback.specs.Replaying.{Spot, behind}
+use Rattle.playback.specs.Replaying.{Spot, longest, first_spot, nowhere, behind, fault_in}
 
 -- the bytes that are left, where they begin, the last count's day, and how many counts there were
 pub record Rest : Type 0 where
@@ -13,17 +13,17 @@ pub record Rest : Type 0 where
   pub last : Option ℕ
   pub counts : ℕ
 
--- the fault of a cause at a spot
+-- a cause is told with its spot
 abbrev pub at_spot : {X : Type 0} → Spot → Result X ReplayFault → Result X Fault
 at_spot at (Ok x) = Ok x
-at_spot at (Err cause) = Err (record { cause = cause; «record» = at.number; byte = at.byte })
+at_spot at (Err cause) = Err (fault_in at cause)
 
 -- a log before its first record; a log of more than 65,536 bytes is not taken
 abbrev pub whole : List ℕ → Rest
-whole log = record { left = log; at = record { number = 1; byte = 0 }; last = None; counts = 0 }
+whole log = record { left = log; at = first_spot; last = None; counts = 0 }
 
 abbrev pub taken_whole : List ℕ → Result Rest Fault
-taken_whole log = if nat_le (length log) 65536 then Ok (whole log) else at_spot (record { number = 0; byte = 0 }) (Err TooLong)
+taken_whole log = if nat_le (length log) longest then Ok (whole log) else Err (fault_in nowhere TooLong)
 
 -- behind a record in front that is no count, or that is a count of the day
 abbrev pub behind_record : Rest → Rest

@@ -1,5 +1,6 @@
 // Where a record begins, or would begin.
 ghost use Rattle.std.specs.Prelude.{◌≡◌};
+ghost use Rattle.playback.specs.Replaying.{fault_in};
 
 use super::stop::{Fault, ReplayFault};
 
@@ -13,7 +14,7 @@ pub(super) struct Spot {
 impl Spot {
     // The fault of a cause there.
     pub(super) fn fault(self, cause: ReplayFault) -> Fault
-        ensures { result ≡ record { cause = cause; «record» = self.number; byte = self.byte } }
+        ensures { result ≡ fault_in self cause }
     {
         Fault {
             cause,
