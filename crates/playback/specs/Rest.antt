@@ -27,10 +27,10 @@ taken_whole log = if nat_le (length log) longest then Ok (whole log) else Err (f
 
 -- behind a record in front that is no count, or that is a count of the day
 abbrev pub behind_record : Rest → Rest
-behind_record r = record { left = drop (span r.left) r.left; at = behind r.at (span r.left); last = r.last; counts = r.counts }
+behind_record r = record r { left = drop (span r.left) r.left; at = behind r.at (span r.left) }
 
 abbrev pub behind_count : ℕ → Rest → Rest
-behind_count day r = record { left = drop (span r.left) r.left; at = behind r.at (span r.left); last = Some day; counts = r.counts + 1 }
+behind_count day r = record (behind_record r) { last = Some day; counts = r.counts + 1 }
 
 -- an accepted record is moved past
 abbrev pub moved_if : {X E : Type 0} → Result X E → Rest → Rest → Rest

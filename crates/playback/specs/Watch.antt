@@ -37,10 +37,10 @@ abbrev pub done : Result (Unit {0}) ReplayFault → Watch → Done
 done answer w = record { answer = answer; after = w }
 
 abbrev pub taken : Watch → Done
-taken w = record { answer = Ok tt; after = w }
+taken w = done (Ok tt) w
 
 abbrev pub faulted : Watch → ReplayFault → Done
-faulted w f = record { answer = Err f; after = w }
+faulted w f = done (Err f) w
 
 -- a count of the day is dealt with
 abbrev pub counted : Watch → ℕ → Standing → List AlarmView → List Unwatched → Watch
@@ -105,7 +105,7 @@ abbrev pub rearm_leads : Terms → Standing → Outcome (Result (Unit {0}) Repla
 rearm_leads t s = let o = rearming t s in outcome (of_monitor o.answer) o.after
 
 abbrev pub restood : Watch → Standing → Watch
-restood w s = record { standing = s; last = w.last; counts = w.counts; alarms = w.alarms; unwatched = w.unwatched }
+restood w s = record w { standing = s }
 
 abbrev pub rearm_read : Terms → Watch → Done
 rearm_read t w = let o = rearm_leads t w.standing in done o.answer (restood w o.after)
