@@ -15,7 +15,7 @@ use Rattle.daybook.specs.declared.entry.unwatched.Unwatched.{Unwatched}
 use Rattle.daybook.specs.Books.{all_used, above, above_in}
 use Rattle.daybook.specs.Entries.{AlarmView}
 use Rattle.playback.specs.Rest.{Rest, behind_count, moved_if}
-use Rattle.playback.specs.Watch.{Watch, Places, done, round_done, watched_count, round, rung, settled_slip, shown, watched, count_read}
+use Rattle.playback.specs.Watch.{Watch, Places, done, round_done, watched_count, round, after_settle, settled_slip, shown, watched, count_read}
 
 -- a refusal differs from a taken round
 refused_not_taken : (f : ReplayFault) (s s' : Standing) (ents ents' : List AlarmView) → round (Err f) s ents ≡ round (Ok tt) s' ents' → ⊥
@@ -29,7 +29,7 @@ Same s ents s' ents' = (s' ≡ s) × (ents' ≡ ents)
 -- a slip just given fits
 pub settled_fits : (t : Terms) (m r al : ℕ) (row : List ℕ) (play : Strategy) (ents : List AlarmView) (day count : ℕ) → (k : ℕ) → k ≡ class_of (length t.nulls) count →
     settled_slip t (standing Staked m r al row play) ents day (record { tag = t.tag; number = r + 1; count = count })
-    ≡ rung (Ok (rings t (standing Staked m r al row play) k)) day (settled t (standing Staked m r al row play) k) ents
+    ≡ after_settle (Ok (rings t (standing Staked m r al row play) k)) day (settled t (standing Staked m r al row play) k) ents
 settled_fits t m r al row play ents day count k e =
     let tags : eqb t.tag t.tag ≡ true = grind (arith, nat_tests) in
     let numbers : eqb (r + 1) (r + 1) ≡ true = grind (arith, nat_tests) in
