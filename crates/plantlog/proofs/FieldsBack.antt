@@ -5,18 +5,18 @@ use Rattle.std.proofs.lemmas.Bool.{and_parts}
 use Rattle.edetector.specs.declared.value.ValueFault.TheVariants.{Classes, Weight, Total, Threshold}
 use Rattle.edetector.specs.Tables.{from_to, total, weights_within}
 use Rattle.plantlog.specs.declared.fault.RecordFault.{RecordFault}
-use Rattle.plantlog.specs.declared.fault.RecordFault.TheVariants.{Value, UnknownChoice}
-use Rattle.plantlog.specs.Results.{of_ok, and_then}
+use Rattle.plantlog.specs.declared.fault.RecordFault.TheVariants.{Value, Number, UnknownChoice}
+use Rattle.plantlog.specs.Results.{of_ok, of_err, and_then}
 use Rattle.plantlog.specs.Numbers.{number_bytes}
 use Rattle.plantlog.specs.Format.{Setup, Count, End, numbers_bytes}
-use Rattle.plantlog.specs.FirstRecord.{of_number, any_field, field, weights, ended, table_weights, table_fields, setup_fields, count_fields, end_fields}
+use Rattle.plantlog.specs.FirstRecord.{any_field, field, weights, ended, table_weights, table_fields, setup_fields, count_fields, end_fields}
 use Rattle.plantlog.proofs.Limits.{within}
 use Rattle.plantlog.proofs.NumberLaws.{number_back}
 use Rattle.plantlog.proofs.WriteFacts.{Unbroken}
 
 pub any_back : (n : ℕ) (rest : List ℕ) → n < 2 ^ 32 → any_field (number_bytes n ++ rest) ≡ Ok (n, rest)
 unfolding any_field
-any_back n rest h = ap of_number (number_back n rest h)
+any_back n rest h = ap (of_err Number) (number_back n rest h)
 
 pub field_back : (low high : ℕ) (fault : RecordFault) (n : ℕ) (rest : List ℕ) → high < 2 ^ 32 → from_to low high n ≡ true → field low high fault (number_bytes n ++ rest) ≡ Ok (n, rest)
 unfolding field

@@ -5,25 +5,25 @@ use Rattle.edetector.specs.declared.value.ValueFault.TheVariants.{Classes, Weigh
 use Rattle.edetector.specs.Tables.{from_to, total, weights_within, table_fault}
 use Rattle.plantlog.specs.declared.number.NumberFault.{NumberFault}
 use Rattle.plantlog.specs.declared.fault.RecordFault.{RecordFault}
-use Rattle.plantlog.specs.declared.fault.RecordFault.TheVariants.{Value, UnknownChoice}
+use Rattle.plantlog.specs.declared.fault.RecordFault.TheVariants.{Value, Number, UnknownChoice}
 use Rattle.plantlog.specs.Bytes.{Bytes}
-use Rattle.plantlog.specs.Results.{of_ok}
+use Rattle.plantlog.specs.Results.{of_ok, of_err}
 use Rattle.plantlog.specs.Numbers.{number_bytes, first_number}
 use Rattle.plantlog.specs.Format.{Fields, Table, Setup, Alternative, Count, Rearm, End, kind_byte, numbers, numbers_bytes, of_value, fields_fault}
-use Rattle.plantlog.specs.FirstRecord.{of_number, any_field, field, weights, no_more, ended, table_weights, table_fields, setup_fields, count_fields, end_fields}
+use Rattle.plantlog.specs.FirstRecord.{any_field, field, weights, no_more, ended, table_weights, table_fields, setup_fields, count_fields, end_fields}
 use Rattle.plantlog.specs.Laws.{Sayable}
 use Rattle.plantlog.proofs.ResultFacts.{ok_is, err_no_ok, then_was, of_ok_was}
 use Rattle.plantlog.proofs.FieldFacts.{field_was}
 use Rattle.plantlog.proofs.TableRead.{weights_were, table_were}
 use Rattle.plantlog.proofs.NumberUnique.{number_written}
 
-of_number_was : {X : Type 0} (r : Result X NumberFault) (x : X) → of_number r ≡ Ok x → r ≡ Ok x
-of_number_was (Ok y) x e = ap Ok (ok_is e)
-of_number_was (Err f) x e = absurd (err_no_ok e)
+number_was : {X : Type 0} (r : Result X NumberFault) (x : X) → of_err Number r ≡ Ok x → r ≡ Ok x
+number_was (Ok y) x e = ap Ok (ok_is e)
+number_was (Err f) x e = absurd (err_no_ok e)
 
 pub any_written : (bs : List ℕ) (n : ℕ) (rest : List ℕ) → Bytes bs → any_field bs ≡ Ok (n, rest) → (bs ≡ number_bytes n ++ rest) × (n < 2 ^ 32) × Bytes rest
 unfolding any_field
-any_written bs n rest h e = number_written bs n rest h (of_number_was (first_number bs) (n, rest) e)
+any_written bs n rest h e = number_written bs n rest h (number_was (first_number bs) (n, rest) e)
 
 -- a list of numbers in front of some bytes
 pub record NumbersIn (bs ns rest : List ℕ) : Type 0 where

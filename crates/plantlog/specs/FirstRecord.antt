@@ -2,20 +2,15 @@
 use Rattle.std.specs.Prelude.{ℕ, zero, suc, if◌then◌else◌, List, [], ◌∷◌, length, take, drop, Ok, Err, Result, ◌==◌, nat_le}
 use Rattle.edetector.specs.declared.value.ValueFault.TheVariants.{Classes, Weight, Total, Threshold}
 use Rattle.edetector.specs.Tables.{from_to, total}
-use Rattle.plantlog.specs.declared.number.NumberFault.{NumberFault}
 use Rattle.plantlog.specs.declared.fault.RecordFault.{RecordFault}
 use Rattle.plantlog.specs.declared.fault.RecordFault.TheVariants.{Value, Number, NoneLeft, LengthByte, Truncated, UnknownKind, UnknownChoice, LeftOver}
-use Rattle.plantlog.specs.Results.{of_ok, and_then}
+use Rattle.plantlog.specs.Results.{of_ok, of_err, and_then}
 use Rattle.plantlog.specs.Numbers.{first_number}
 use Rattle.plantlog.specs.Format.{Fields, Table, Setup, Alternative, Count, Rearm, End}
 
-abbrev pub of_number : {X : Type 0} → Result X NumberFault → Result X RecordFault
-of_number (Ok x) = Ok x
-of_number (Err e) = Err (Number e)
-
 -- a field: the next number, with the bytes behind it
 unfoldable pub any_field : List ℕ → Result (ℕ × List ℕ) RecordFault
-any_field bs = of_number (first_number bs)
+any_field bs = of_err Number (first_number bs)
 
 -- a field that has to lie from low to high
 unfoldable pub field : ℕ → ℕ → RecordFault → List ℕ → Result (ℕ × List ℕ) RecordFault

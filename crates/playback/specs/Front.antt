@@ -6,15 +6,14 @@ use Rattle.plantlog.specs.declared.record.RuleChoice.{RuleChoice}
 use Rattle.plantlog.specs.declared.record.RuleChoice.TheVariants.{ShiryaevRoberts, Page}
 use Rattle.plantlog.specs.declared.record.BettorChoice.{BettorChoice}
 use Rattle.plantlog.specs.declared.record.BettorChoice.TheVariants.{Fixed, Adaptive, Mixture}
-use Rattle.plantlog.specs.Results.{of_ok}
+use Rattle.plantlog.specs.Results.{of_ok, of_err}
 use Rattle.plantlog.specs.Format.{Fields, Table, Setup, Alternative, Count, End}
 use Rattle.plantlog.specs.FirstRecord.{first_record}
 use Rattle.playback.specs.declared.stop.ReplayFault.{ReplayFault}
 use Rattle.playback.specs.declared.stop.ReplayFault.TheVariants.{Record, NotAllowed}
 
 abbrev pub of_record : {X : Type 0} → Result X RecordFault → Result X ReplayFault
-of_record (Ok x) = Ok x
-of_record (Err e) = Err (Record e)
+of_record r = of_err Record r
 
 -- what the next record says
 abbrev pub next_fields : List ℕ → Result Fields ReplayFault

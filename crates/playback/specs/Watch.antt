@@ -8,6 +8,7 @@ use Rattle.edetector.specs.declared.fault.MonitorFault.{MonitorFault}
 use Rattle.edetector.specs.declared.fault.Refused.{Refused}
 use Rattle.edetector.specs.Slips.{shown_slip}
 use Rattle.edetector.specs.Ledger.{Terms, Standing, Outcome, outcome, staking, settling, rearming}
+use Rattle.plantlog.specs.Results.{of_err}
 use Rattle.playback.specs.declared.stop.ReplayFault.{ReplayFault}
 use Rattle.playback.specs.declared.stop.ReplayFault.TheVariants.{Monitor, Book, DayNotAbove, CountsDiffer}
 use Rattle.daybook.specs.declared.fault.BookFault.TheVariants.{Full}
@@ -96,13 +97,9 @@ by_state Rung t p w number day count = if all_used p.unwatched w.unwatched then 
 abbrev pub count_read : Terms → Places → Watch → ℕ → ℕ → ℕ → Done
 count_read t p w number day count = if above w.last day then by_state w.standing.state t p w number day count else faulted w DayNotAbove
 
-abbrev pub of_monitor : {X : Type 0} → Result X MonitorFault → Result X ReplayFault
-of_monitor (Ok x) = Ok x
-of_monitor (Err f) = Err (Monitor f)
-
 -- the monitor's own answer and what it leaves
 abbrev pub rearm_leads : Terms → Standing → Outcome (Result (Unit {0}) ReplayFault)
-rearm_leads t s = let o = rearming t s in outcome (of_monitor o.answer) o.after
+rearm_leads t s = let o = rearming t s in outcome (of_err Monitor o.answer) o.after
 
 abbrev pub restood : Watch → Standing → Watch
 restood w s = record w { standing = s }
