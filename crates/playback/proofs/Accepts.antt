@@ -1,5 +1,5 @@
 -- A log that is replayed without a fault is the writing of the records of a log.
-use Rattle.std.proofs.Common.{◌≡◌, ℕ, zero, suc, ◌+◌, ◌≤◌, Bool, true, false, cond, eqb, leb, List, [], ◌∷◌, length, get_or, Fits, w8, None, Some, IfOk, Ok, Err, Option, Result, sym, refl, ap, ◌∙◌, subst, not-suc-le-zero, arith}
+use Rattle.std.proofs.Common.{◌≡◌, ℕ, zero, suc, ◌+◌, ◌≤◌, Bool, true, false, cond, eqb, leb, List, [], ◌∷◌, length, get_or, Fits, w8, None, Some, Ok, Err, Option, Result, sym, refl, ap, ◌∙◌, subst, not-suc-le-zero, arith}
 use Rattle.std.proofs.lemmas.List.{append-nil}
 use Rattle.std.proofs.lemmas.Bool.{eqb-true}
 use Rattle.std.proofs.lemmas.Bool.Decides.{nat_tests}
@@ -21,15 +21,15 @@ use Rattle.daybook.specs.declared.entry.unwatched.Unwatched.{Unwatched}
 use Rattle.playback.specs.declared.report.Run.{Run}
 use Rattle.playback.specs.declared.stop.Fault.{Fault}
 use Rattle.playback.specs.declared.stop.ReplayFault.TheVariants.{Value, TooLong}
-use Rattle.playback.specs.Accepted.{WatchedRecords, AfterSetup, LogRecords, Accepted}
+use Rattle.playback.specs.Accepted.{NoFault, WatchedRecords, AfterSetup, LogRecords, Accepted}
 use Rattle.playback.specs.Course.{Event, Settled, Passed, Rearmed, days_of, RisingDays, free_in, EventsOf, behind_all, spot_behind, Reached}
 use Rattle.plantlog.specs.declared.record.Setup.{Setup as SetupValue}
 use Rattle.playback.specs.Front.{rule_named, bettor_named}
-use Rattle.playback.specs.Replayed.{Said, Unmade, Made, Replay, begun, finished, no_monitor, with_record, monitored, play_of, has_alternative, alternative_of, after_table, replayed, head_of}
+use Rattle.playback.specs.Replayed.{Replay, begun, finished, no_monitor, with_record, monitored, play_of, has_alternative, alternative_of, after_table, replayed, head_of}
 use Rattle.playback.specs.Replaying.{Spot, longest, first_spot, nowhere, behind, fault_in, watching}
 use Rattle.playback.specs.Stream.{Stream, Over, Broken, Next, opened, stream_by, stream_of}
 use Rattle.playback.specs.Rest.{Rest, whole, taken_whole}
-use Rattle.playback.specs.Told.{replay_told}
+use Rattle.playback.specs.Told.{said_by, replay_told}
 use Rattle.playback.specs.Watch.{Watch, Places}
 use Rattle.playback.proofs.OneReading.{only_records}
 use Rattle.playback.proofs.Courses.{has_whole_course}
@@ -105,11 +105,6 @@ ends t p s at w none =
     let end = subst (λ (x : Option Fault). Reached (free_in p (watching t p s at w).watch) (watching t p s at w).watch (spot_behind c.events s at) (behind_all c.events s) x) none c.reached in
     of_events c.events s at w.last w.counts end.0 _ c.of_log c.rising c.counts end.1
 
--- what a replay without a fault tells
-abbrev NoFault : Said → Type 0
-NoFault (Unmade f) = ⊥
-NoFault (Made classes total threshold rule told fault) = fault ≡ None
-
 module _ (p : Places) (ws : List ℕ) (x : SetupValue) where
   made_by : (t : Terms) (play : Strategy) (rest : Stream) (at : Spot) (b : Bool) → NoFault (cond b (finished ws x t (watching t p rest at (begun play))) (no_monitor at (Value Threshold))).said → Left None 0 rest
   made_by t play rest at true none = ends t p rest at (begun play) none
@@ -180,9 +175,9 @@ not_too_long log rest false fits e = cc
 
 -- what is reported of a log without a fault
 pub accepted : (r : Result Run Fault) (alarms : Book Alarm) (unwatched : Book Unwatched) (p : Places) (log : List ℕ) (rest : Rest) → Ok rest ≡ taken_whole log → ((i : ℕ) → Fits w8 (get_or log i 0)) →
-    replay_told r alarms unwatched ≡ replayed p (stream_of rest.left) rest.at → IfOk r (λ run. run.fault ≡ None → Accepted log)
-accepted (Ok run) alarms unwatched p log rest is fits told = λ none.
+    replay_told r alarms unwatched ≡ replayed p (stream_of rest.left) rest.at → NoFault (said_by r) → Accepted log
+accepted (Ok run) alarms unwatched p log rest is fits told none =
     let told_whole = told ∙ ap (λ (x : Rest). replayed p (stream_of x.left) x.at) (whole_by log rest (leb (length log) longest) is) in
     let l = by_table p (stream_of log) first_spot (subst (λ (x : Replay). NoFault x.said) told_whole none) in
     written log l.0 (bytes_of log fits) (not_too_long log rest (leb (length log) longest) refl is) l.1 l.2
-accepted (Err f) alarms unwatched p log rest is fits told = tt
+accepted (Err f) alarms unwatched p log rest is fits told none = absurd none

@@ -14,3 +14,4 @@ pub mod Rises
 pub mod Rounds
 pub mod Steps
 pub mod Streams
+pub mod Takes

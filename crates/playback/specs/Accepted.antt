@@ -5,8 +5,14 @@ use Rattle.plantlog.specs.Format.{Fields, Table, Setup, Alternative, Count, Rear
 use Rattle.plantlog.specs.Laws.{AllWritable, log_bytes}
 use Rattle.daybook.specs.Books.{above}
 use Rattle.playback.specs.Front.{bettor_named}
-use Rattle.playback.specs.Replayed.{has_alternative}
+use Rattle.playback.specs.Replayed.{Said, Unmade, Made, has_alternative, replay_of}
 use Rattle.playback.specs.Replaying.{longest}
+use Rattle.playback.specs.Watch.{Places}
+
+-- a monitor was made, and nothing stopped the replay
+abbrev pub NoFault : Said → Type 0
+NoFault (Unmade f) = ⊥
+NoFault (Made classes total threshold rule told fault) = fault ≡ None
 
 -- behind so many counts, the last of a day: counts whose days rise, and rearms, in any number, then one end, which names
 -- how many counts there were
@@ -34,3 +40,15 @@ pub record Accepted (log : List ℕ) : Type 0 where
   pub writable : AllWritable records
   pub written : log ≡ log_bytes records
   pub only : (others : List Fields) → AllWritable others → log_bytes others ≡ log → others ≡ records
+
+-- how many counts there are
+abbrev pub counts_in : List Fields → ℕ
+counts_in [] = 0
+counts_in (Count day n ∷ fs) = counts_in fs + 1
+counts_in (f ∷ fs) = counts_in fs
+
+-- and the writing of such records is replayed without a fault, if it is not too long and each of the two books has a place
+-- for every count
+abbrev pub Takes : Type 0
+Takes =
+    (p : Places) (fs : List Fields) → LogRecords fs → AllWritable fs → length (log_bytes fs) ≤ longest → counts_in fs ≤ p.alarms → counts_in fs ≤ p.unwatched → NoFault (replay_of p (log_bytes fs)).said

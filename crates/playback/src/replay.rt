@@ -1,12 +1,12 @@
 // The replay of a whole log.
-ghost use Rattle.std.specs.Prelude.{◌≡◌, None, IfOk};
+ghost use Rattle.std.specs.Prelude.{◌≡◌};
 ghost use Rattle.daybook.specs.Books.{Keeps};
-ghost use Rattle.playback.specs.Accepted.{Accepted};
+ghost use Rattle.playback.specs.Accepted.{NoFault, Accepted, Takes};
 ghost use Rattle.playback.specs.Course.{HasWholeCourse, OneFinish};
 ghost use Rattle.playback.specs.Figures.{Figures};
 ghost use Rattle.playback.specs.Held.{places_in};
 ghost use Rattle.playback.specs.Replayed.{replay_of};
-ghost use Rattle.playback.specs.Told.{replay_told};
+ghost use Rattle.playback.specs.Told.{said_by, replay_told};
 
 use super::books::Books;
 use super::open::open;
@@ -18,7 +18,8 @@ use daybook::entry::alarm::Alarm;
 use daybook::entry::unwatched::Unwatched;
 
 // Both books begin empty, and keep at a fault what earlier records entered. Every replay has a course of events, which
-// say what became of each count and rearm, and why it ended; without a fault the log holds what it should and no more.
+// say what became of each count and rearm, and why it ended; without a fault the log holds what it should and no more,
+// and a log that holds this is replayed without a fault if both books have the places.
 pub fn replay(
     log: &[u8],
     alarms: &mut Book<'_, Alarm>,
@@ -26,7 +27,8 @@ pub fn replay(
 ) -> Result<Run, Fault>
     ensures value { replay_told result alarms.new unwatched.new ≡ replay_of (places_in alarms.old unwatched.old) log.now }
     ensures kept { Keeps alarms.old alarms.new × Keeps unwatched.old unwatched.new }
-    ensures accepts { IfOk result (λ run. run.fault ≡ None → Accepted log.now) }
+    ensures accepts { NoFault (said_by result) → Accepted log.now }
+    ensures takes { Takes }
     ensures whole_course { HasWholeCourse }
     ensures one_finish { OneFinish }
     ensures figures { Figures }

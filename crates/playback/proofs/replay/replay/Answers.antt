@@ -2,6 +2,7 @@ use Rattle.playback.proofs.Accepts.{accepted}
 use Rattle.playback.proofs.Courses.{has_whole_course}
 use Rattle.playback.proofs.Only.{one_finish}
 use Rattle.playback.proofs.Reckoned.{reckoned}
+use Rattle.playback.proofs.Takes.{takes}
 use Rattle.playback.proofs.replay.replay.Goals as goal
 
 pub returns-in_err-new-clause-whole_course : goal.returns-in_err-new-clause-whole_course
@@ -24,3 +25,9 @@ returns-clause-one_finish c = one_finish
 
 pub returns-clause-accepts : goal.returns-clause-accepts
 returns-clause-accepts c = accepted c.open.result c.open.new.books.alarms.now c.open.new.books.unwatched.now _ c.args.log.now c.in_ok-new.field-0 c.in_ok-new.ensures c.type_inv.log c.open.ensures.value
+
+pub returns-in_err-new-clause-takes : goal.returns-in_err-new-clause-takes
+returns-in_err-new-clause-takes c = takes
+
+pub returns-clause-takes : goal.returns-clause-takes
+returns-clause-takes c = takes
