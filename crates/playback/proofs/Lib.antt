@@ -8,6 +8,7 @@ pub mod Listed
 pub mod OneReading
 pub mod Only
 pub mod Opens
+pub mod Planned
 pub mod Readings
 pub mod Reckoned
 pub mod Rises

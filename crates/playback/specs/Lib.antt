@@ -4,6 +4,7 @@ pub mod Figures
 pub mod Front
 pub mod Held
 pub mod Listing
+pub mod Planned
 pub mod Reading
 pub mod Replayed
 pub mod Replaying

@@ -1,6 +1,7 @@
 use Rattle.playback.proofs.Accepts.{accepted}
 use Rattle.playback.proofs.Courses.{has_whole_course}
 use Rattle.playback.proofs.Only.{one_finish}
+use Rattle.playback.proofs.Planned.{planned}
 use Rattle.playback.proofs.Reckoned.{reckoned}
 use Rattle.playback.proofs.Takes.{takes}
 use Rattle.playback.proofs.replay.replay.Goals as goal
@@ -31,3 +32,9 @@ returns-in_err-new-clause-takes c = takes
 
 pub returns-clause-takes : goal.returns-clause-takes
 returns-clause-takes c = takes
+
+pub returns-in_err-new-clause-is_run : goal.returns-in_err-new-clause-is_run
+returns-in_err-new-clause-is_run c = planned
+
+pub returns-clause-is_run : goal.returns-clause-is_run
+returns-clause-is_run c = planned

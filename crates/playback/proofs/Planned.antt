@@ -1,0 +1,96 @@
+-- The events of a replay are the run of their plan.
+use Rattle.std.proofs.Common.{◌≡◌, ℕ, zero, suc, ◌+◌, ◌*◌, ◌<◌, Bool, true, false, cond, eqb, ltb, leb, List, [], ◌∷◌, ◌++◌, length, sym, refl, ap, ◌∙◌, subst, append_assoc, arith}
+use Rattle.std.proofs.lemmas.List.{length-append}
+use Rattle.std.proofs.lemmas.Bool.Decides.{nat_tests}
+use Rattle.edetector.specs.declared.state.State.TheVariants.{Armed, Staked}
+use Rattle.edetector.specs.Rules.{bet}
+use Rattle.edetector.specs.Tables.{class_of}
+use Rattle.edetector.specs.Bettors.{Strategy}
+use Rattle.edetector.specs.Ledger.{Terms, Standing, staking, settled, rings, rearming}
+use Rattle.edetector.specs.Plans.{Plan, all_called, run, rounds_in, alarms_in}
+use Rattle.edetector.specs.View.{standing}
+use Rattle.playback.specs.Watch.{Places, alarm_if}
+use Rattle.playback.specs.Course.{Event, Settled, Passed, Rearmed, after_event, alarm_of, alarms_of, free_after, AllRightly}
+use Rattle.playback.specs.Planned.{classes_of, calls_before, plan_of, Planned}
+use Rattle.playback.proofs.Rounds.{armed_next}
+
+-- whether each settled count rang
+abbrev rang : Terms → Standing → List Event → List Bool
+rang t s [] = []
+rang t s (Settled day count ∷ es) =
+    let after = after_event t s (Settled day count) in leb (t.threshold * bet) after.ledger ∷ rang t after es
+rang t s (Passed day number ∷ es) = rang t s es
+rang t s (Rearmed ∷ es) = rang t (rearming t s).after es
+
+one_class : (classes count : ℕ) → class_of classes (class_of classes count) ≡ class_of classes count
+one_class classes count = omega arith
+
+-- a run whose calls staked the monitor goes on behind the class
+goes_on : (t : Terms) (p : Plan) (m r al : ℕ) (row : List ℕ) (play : Strategy) (past : List ℕ) (count : ℕ) (ks : List ℕ) (s0 : Standing) →
+    let u = standing Staked m r al row play in
+    let k = class_of (length t.nulls) count in
+    all_called t s0 (p past) ≡ u → run t p s0 past (k ∷ ks) ≡ rings t u k ∷ run t p (settled t u k) (past ++ (k ∷ [])) ks
+goes_on t p m r al row play past count ks s0 called =
+    let tags : eqb t.tag t.tag ≡ true = grind (arith, nat_tests) in
+    let numbers : eqb (r + 1) (r + 1) ≡ true = grind (arith, nat_tests) in
+    let same = one_class (length t.nulls) count in
+    rw (called, tags, numbers, same) refl
+
+-- from a standing that is armed and has a round left
+from_armed : (t : Terms) (p : Plan) (m r al : ℕ) (row : List ℕ) (play : Strategy) (past : List ℕ) (day count : ℕ) (ks : List ℕ) (s0 : Standing) → ltb r 1000000 ≡ true →
+    let s = standing Armed m r al row play in
+    let after = after_event t s (Settled day count) in
+    let k = class_of (length t.nulls) count in
+    all_called t s0 (p past) ≡ (staking t s).after → run t p s0 past (k ∷ ks) ≡ leb (t.threshold * bet) after.ledger ∷ run t p after (past ++ (k ∷ [])) ks
+from_armed t p m r al row play past day count ks s0 left called =
+    let s = standing Armed m r al row play in
+    let k = class_of (length t.nulls) count in
+    let stakes : (staking t s).after ≡ standing Staked m r al (play []) play = rw left refl in
+    goes_on t p m r al (play []) play past count ks s0 (called ∙ stakes)
+    ∙ ap (λ x. leb (t.threshold * bet) x.ledger ∷ run t p x (past ++ (k ∷ [])) ks) (sym (armed_next t m r al row play day count left))
+
+-- the same of any standing that is armed
+settles : (t : Terms) (p : Plan) (s : Standing) (past : List ℕ) (day count : ℕ) (ks : List ℕ) (s0 : Standing) → s.state ≡ Armed → s.rounds < 1000000 →
+    let after = after_event t s (Settled day count) in
+    let k = class_of (length t.nulls) count in
+    all_called t s0 (p past) ≡ (staking t s).after → run t p s0 past (k ∷ ks) ≡ leb (t.threshold * bet) after.ledger ∷ run t p after (past ++ (k ∷ [])) ks
+settles t p s past day count ks s0 armed left called =
+    let few : ltb s.rounds 1000000 ≡ true = grind (arith, nat_tests) in
+    let is : s ≡ standing Armed s.ledger s.rounds s.alarms s.row s.play = ap (λ st. standing st s.ledger s.rounds s.alarms s.row s.play) armed in
+    subst (λ (x : Standing). all_called t s0 (p past) ≡ (staking t x).after → run t p s0 past (class_of (length t.nulls) count ∷ ks) ≡ leb (t.threshold * bet) (after_event t x (Settled day count)).ledger ∷ run t p (after_event t x (Settled day count)) (past ++ (class_of (length t.nulls) count ∷ [])) ks) (sym is)
+    (from_armed t p s.ledger s.rounds s.alarms s.row s.play past day count ks s0 few) called
+
+follows : (t : Terms) (free : Places) (p : Plan) (es : List Event) (s s0 : Standing) (past : List ℕ) → AllRightly t free s es → all_called t s0 (p past) ≡ all_called t s (calls_before zero es) →
+    ((k : ℕ) (later : List ℕ) → p (past ++ (k ∷ later)) ≡ calls_before (suc (length later)) es) → run t p s0 past (classes_of t es) ≡ rang t s es
+follows t free p [] s s0 past ok here later = refl
+follows t free p (Settled day count ∷ es) s s0 past ok here later =
+    let k = class_of (length t.nulls) count in
+    let after = after_event t s (Settled day count) in
+    let rest = follows t (free_after t s free (Settled day count)) p es after after (past ++ (k ∷ [])) ok.1 (ap (all_called t after) (later k [])) (λ k' later'. ap p (append_assoc past (k ∷ []) (k' ∷ later')) ∙ later k (k' ∷ later')) in
+    settles t p s past day count (classes_of t es) s0 ok.0.0 ok.0.1 here ∙ ap (λ bs. leb (t.threshold * bet) after.ledger ∷ bs) rest
+follows t free p (Passed day number ∷ es) s s0 past ok here later = follows t (free_after t s free (Passed day number)) p es s s0 past ok.1 here later
+follows t free p (Rearmed ∷ es) s s0 past ok here later = follows t (free_after t s free Rearmed) p es (rearming t s).after s0 past ok.1 here later
+
+-- the answers are an alarm for each that is entered, and a round for each class
+entered : (b : Bool) (day : ℕ) (s : Standing) → cond b 1 0 ≡ length (alarm_if b day s [])
+entered true day s = refl
+entered false day s = refl
+
+rang_alarms : (t : Terms) (s : Standing) (es : List Event) → alarms_in (rang t s es) ≡ length (alarms_of t s es)
+rang_alarms t s [] = refl
+rang_alarms t s (Settled day count ∷ es) =
+    let after = after_event t s (Settled day count) in
+    omega (arith, entered (leb (t.threshold * bet) after.ledger) day after, rang_alarms t after es, length-append (alarm_of t s (Settled day count)) (alarms_of t after es))
+rang_alarms t s (Passed day number ∷ es) = rang_alarms t s es
+rang_alarms t s (Rearmed ∷ es) = rang_alarms t (rearming t s).after es
+
+rang_rounds : (t : Terms) (s : Standing) (es : List Event) → rounds_in (rang t s es) ≡ length (classes_of t es)
+rang_rounds t s [] = refl
+rang_rounds t s (Settled day count ∷ es) = omega (arith, rang_rounds t (after_event t s (Settled day count)) es)
+rang_rounds t s (Passed day number ∷ es) = rang_rounds t s es
+rang_rounds t s (Rearmed ∷ es) = rang_rounds t (rearming t s).after es
+
+pub planned : Planned
+planned t free s es ok =
+    let same = follows t free (plan_of es) es s s [] ok refl (λ k later. refl) in
+    record { alarms = ap alarms_in same ∙ rang_alarms t s es; rounds = ap rounds_in same ∙ rang_rounds t s es }
