@@ -1,10 +1,25 @@
--- The events of a replay as the run of a plan of calls, of the kind that the bound speaks of.
-use Rattle.std.specs.Prelude.{◌≡◌, ℕ, zero, suc, List, [], ◌∷◌, length}
+-- A replay as the run of a plan of calls, of the kind that the bound speaks of, which is the same whatever is counted.
+use Rattle.std.specs.Prelude.{◌≡◌, ℕ, if◌then◌else◌, List, [], ◌∷◌, ◌++◌, length}
 use Rattle.edetector.specs.Tables.{class_of}
-use Rattle.edetector.specs.Ledger.{Terms, Standing}
-use Rattle.edetector.specs.Plans.{Call, Stake, Rearm, Plan, run, rounds_in, alarms_in}
+use Rattle.edetector.specs.States.{is_armed}
+use Rattle.edetector.specs.Ledger.{Terms, Standing, staking, rearming}
+use Rattle.edetector.specs.Plans.{Stake, Rearm, Plan, next, run, rounds_in, alarms_in}
 use Rattle.playback.specs.Watch.{Places}
 use Rattle.playback.specs.Course.{Event, Settled, Passed, Rearmed, AllRightly, alarms_of}
+
+-- what a record asks for, without its day and its count
+pub data Turn : Type 0 where
+  ToCount : Turn
+  ToRearm : Turn
+
+abbrev pub turn_of : Event → Turn
+turn_of (Settled day count) = ToCount
+turn_of (Passed day number) = ToCount
+turn_of Rearmed = ToRearm
+
+abbrev pub turns_of : List Event → List Turn
+turns_of [] = []
+turns_of (e ∷ es) = turn_of e ∷ turns_of es
 
 -- the classes of the settled counts
 abbrev pub classes_of : Terms → List Event → List ℕ
@@ -13,24 +28,22 @@ classes_of t (Settled day count ∷ es) = class_of (length t.nulls) count ∷ cl
 classes_of t (Passed day number ∷ es) = classes_of t es
 classes_of t (Rearmed ∷ es) = classes_of t es
 
--- the calls before the settlement that comes after n others: the rearms since the last of these, and a stake
-abbrev pub calls_before : ℕ → List Event → List Call
-calls_before n [] = []
-calls_before zero (Settled day count ∷ es) = Stake ∷ []
-calls_before (suc n) (Settled day count ∷ es) = calls_before n es
-calls_before n (Passed day number ∷ es) = calls_before n es
-calls_before zero (Rearmed ∷ es) = Rearm ∷ calls_before zero es
-calls_before (suc n) (Rearmed ∷ es) = calls_before (suc n) es
+-- from s: the rearms before the next settlement, and a stake. What led to the classes settled so far is over; a count is
+-- passed over where the monitor is not armed, which these classes tell
+abbrev pub calls_before : Terms → Standing → List Turn → Plan
+calls_before t s [] past = []
+calls_before t s (ToCount ∷ turns) [] = if is_armed s.state then Stake ∷ [] else calls_before t s turns []
+calls_before t s (ToCount ∷ turns) (k ∷ past) =
+    if is_armed s.state then calls_before t (next t (staking t s).after k).after turns past else calls_before t s turns (k ∷ past)
+calls_before t s (ToRearm ∷ turns) [] = Rearm ∷ calls_before t (rearming t s).after turns []
+calls_before t s (ToRearm ∷ turns) (k ∷ past) = calls_before t (rearming t s).after turns (k ∷ past)
 
--- of the classes settled so far it looks only at how many there are; which counts are passed over it has from the events
-abbrev pub plan_of : List Event → Plan
-plan_of es past = calls_before (length past) es
+-- the run on the classes of the settled counts has an alarm for each that the events enter, and a round for each count that
+-- they settle
+pub record IsRun (t : Terms) (p : Plan) (s : Standing) (es : List Event) : Type 0 where
+  pub alarms : alarms_in (run t p s [] (classes_of t es)) ≡ length (alarms_of t s es)
+  pub rounds : rounds_in (run t p s [] (classes_of t es)) ≡ length (classes_of t es)
 
--- the plan's run on the classes of the settled counts has an alarm for each that the events enter, and a round for each count
--- that they settle
-pub record IsRun (t : Terms) (s : Standing) (es : List Event) : Type 0 where
-  pub alarms : alarms_in (run t (plan_of es) s [] (classes_of t es)) ≡ length (alarms_of t s es)
-  pub rounds : rounds_in (run t (plan_of es) s [] (classes_of t es)) ≡ length (classes_of t es)
-
+-- the plan is of the events' turns, and of any that would have come after them
 abbrev pub Planned : Type 0
-Planned = (t : Terms) (free : Places) (s : Standing) (es : List Event) → AllRightly t free s es → IsRun t s es
+Planned = (t : Terms) (free : Places) (s : Standing) (es : List Event) (more : List Turn) → AllRightly t free s es → IsRun t (calls_before t s (turns_of es ++ more)) s es
