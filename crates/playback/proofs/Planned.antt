@@ -108,7 +108,7 @@ follows t free p more (Settled day count ∷ es) s s0 past ok here later =
     let after = after_event t s (Settled day count) in
     let turns = turns_of es ++ more in
     let behind : (ks : List ℕ) → p (past ++ (k ∷ ks)) ≡ calls_before t after turns ks =
-        λ ks. later k ks ∙ class_first t s turns k ks ok.0.0 ∙ ap (λ x. calls_before t x turns ks) (class_same t s day count ok.0.0 ok.0.1) in
+    λ ks. later k ks ∙ class_first t s turns k ks ok.0.0 ∙ ap (λ x. calls_before t x turns ks) (class_same t s day count ok.0.0 ok.0.1) in
     let rest = follows t (free_after t s free (Settled day count)) p more es after after (past ++ (k ∷ [])) ok.1 (ap (all_called t after) (behind [])) (λ k' later'. ap p (append_assoc past (k ∷ []) (k' ∷ later')) ∙ behind (k' ∷ later')) in
     settles t p s past day count (classes_of t es) s0 ok.0.0 ok.0.1 (here ∙ ap (all_called t s) (stake_first t s turns ok.0.0)) ∙ ap (λ bs. leb (t.threshold * bet) after.ledger ∷ bs) rest
 follows t free p more (Passed day number ∷ es) s s0 past ok here later =

@@ -188,9 +188,9 @@ module _ (p : Places) (ws : List ℕ) (x : SetupValue) (inside : from_to 1 4096 
       let s = stream_of (log_bytes fs) in
       let classes : eqb (length alts) (length ws) ≡ true = grind (arith, nat_tests) in
       let is =
-          ap (λ b. if_other b (stream_of (log_bytes (Alternative alts ∷ fs))) at) has
-          ∙ ap (λ s. if_other true s at) (written_next (Alternative alts) fs writable.0)
-          ∙ ap (λ b. with_record (cond b (Ok alts) (Err (Value UnlikeClasses))) (Next (Alternative alts) k s) at plays_by) classes in
+      ap (λ b. if_other b (stream_of (log_bytes (Alternative alts ∷ fs))) at) has
+      ∙ ap (λ s. if_other true s at) (written_next (Alternative alts) fs writable.0)
+      ∙ ap (λ b. with_record (cond b (Ok alts) (Err (Value UnlikeClasses))) (Next (Alternative alts) k s) at plays_by) classes in
       subst (λ (r : Replay). NoFault r.said) (sym is) (made_so (play_of x.bettor ws alts) fs (behind at k) writable.1 ordered room)
 
   from_setup : (fs : List Fields) (at : Spot) → AllWritable fs → AfterSetup (length ws) x.bettor fs → Room p (counts_in fs) → NoFault (after_setup p ws x (stream_of (log_bytes fs)) at).said
