@@ -9,6 +9,7 @@ pub mod OneReading
 pub mod Only
 pub mod Opens
 pub mod Planned
+pub mod Promised
 pub mod Readings
 pub mod Reckoned
 pub mod Rises

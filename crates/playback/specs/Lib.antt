@@ -5,6 +5,7 @@ pub mod Front
 pub mod Held
 pub mod Listing
 pub mod Planned
+pub mod Promised
 pub mod Reading
 pub mod Replayed
 pub mod Replaying

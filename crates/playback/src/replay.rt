@@ -6,6 +6,7 @@ ghost use Rattle.playback.specs.Course.{HasWholeCourse, OneFinish};
 ghost use Rattle.playback.specs.Figures.{Figures};
 ghost use Rattle.playback.specs.Held.{places_in};
 ghost use Rattle.playback.specs.Planned.{Planned};
+ghost use Rattle.playback.specs.Promised.{Promised};
 ghost use Rattle.playback.specs.Replayed.{replay_of};
 ghost use Rattle.playback.specs.Told.{said_by, replay_told};
 
@@ -33,6 +34,7 @@ pub fn replay(
     ensures whole_course { HasWholeCourse }
     ensures one_finish { OneFinish }
     ensures is_run { Planned }
+    ensures bound { Promised }
     ensures figures { Figures }
 {
     let mut books = Books { alarms, unwatched };

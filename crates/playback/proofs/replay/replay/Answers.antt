@@ -2,6 +2,7 @@ use Rattle.playback.proofs.Accepts.{accepted}
 use Rattle.playback.proofs.Courses.{has_whole_course}
 use Rattle.playback.proofs.Only.{one_finish}
 use Rattle.playback.proofs.Planned.{planned}
+use Rattle.playback.proofs.Promised.{promised}
 use Rattle.playback.proofs.Reckoned.{reckoned}
 use Rattle.playback.proofs.Takes.{takes}
 use Rattle.playback.proofs.replay.replay.Goals as goal
@@ -38,3 +39,9 @@ returns-in_err-new-clause-is_run c = planned
 
 pub returns-clause-is_run : goal.returns-clause-is_run
 returns-clause-is_run c = planned
+
+pub returns-in_err-new-clause-bound : goal.returns-in_err-new-clause-bound
+returns-in_err-new-clause-bound c = promised
+
+pub returns-clause-bound : goal.returns-clause-bound
+returns-clause-bound c = promised
