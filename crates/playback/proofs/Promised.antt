@@ -58,7 +58,8 @@ plays_fair Adaptive ws alts ok = adaptive_plays ws (some_weight 1 ws ok.null)
 plays_fair Mixture ws alts ok = mixture_plays ws (some_weight 1 ws ok.null) alts (ok.level refl) (some_weight 0 alts (ok.alternative refl))
 
 pub promised : Promised
-promised ws x alts turns h ok =
+promised ws x alts ok =
     let t = terms ws (rule_base x.rule) x.threshold 1 in
     let play = play_of x.bettor ws alts in
-    bound t play (modest x.rule) (plays_fair x.bettor ws alts ok) h (calls_before t (fresh play) turns)
+    let every = bound t play (modest x.rule) (plays_fair x.bettor ws alts ok) in
+    ((λ turns h. every h (calls_before t (fresh play) turns)), every)

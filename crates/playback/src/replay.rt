@@ -21,7 +21,8 @@ use daybook::entry::unwatched::Unwatched;
 
 // Both books begin empty, and keep at a fault what earlier records entered. Every replay has a course of events, which
 // say what became of each count and rearm, and why it ended; without a fault the log holds what it should and no more,
-// and a log that holds this is replayed without a fault if both books have the places.
+// and a log that holds this is replayed without a fault if both books have the places. The events are the run of a plan of
+// calls, and the monitor of a replay keeps the bound on alarms, with this plan and every other.
 pub fn replay(
     log: &[u8],
     alarms: &mut Book<'_, Alarm>,
