@@ -24,6 +24,6 @@ Promised = (ws : List ℕ) (x : Setup) (alts : List ℕ) → WithinLimits ws x.b
     let t = terms ws (rule_base x.rule) x.threshold 1 in
     let play = play_of x.bettor ws alts in
     ((turns : List Turn) (h : ℕ) →
-      let plan = calls_before t (fresh play) turns in
-      x.threshold * weighted_alarms t play plan h ≤ weighted_rounds t play plan h)
+    let plan = calls_before t (fresh play) turns in
+    x.threshold * weighted_alarms t play plan h ≤ weighted_rounds t play plan h)
     × Bound t play
