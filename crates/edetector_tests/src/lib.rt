@@ -1,13 +1,20 @@
 // Tests of the tables, bettors, rules and monitor.
 #![tactic(auto)]
 
+ghost use Rattle.std.specs.Prelude.{◌≡◌, [], ◌∷◌, MatchResult};
+ghost use Rattle.edetector.specs.Weights.{null_weights, alternative_weights};
+
 use edetector::fixed::Fixed;
 use edetector::table::{AlternativeTable, NullTable};
 use edetector::units::Weight;
 use edetector::value::ValueFault;
 
 // The fixed bettor with the null weights 3, 1 and the alternative 1, 1.
-pub fn example_bettor() -> Result<Fixed, ValueFault> {
+pub fn example_bettor() -> Result<Fixed, ValueFault>
+    ensures { MatchResult result
+        (λ b. (null_weights b.null ≡ 3 ∷ 1 ∷ []) × (alternative_weights b.alternative ≡ 1 ∷ 1 ∷ []))
+        (λ _. ⊥) }
+{
     let null = NullTable::new(&[Weight(3), Weight(1)])?;
     let alternative = AlternativeTable::new(&[Weight(1), Weight(1)])?;
     Fixed::new(null, alternative)
