@@ -1,23 +1,23 @@
 -- The bound: A × weighted alarms ≤ weighted settled rounds.
-use Rattle.std.proofs.Common.{◌≡◌, ℕ, zero, suc, ◌+◌, ◌*◌, ◌≤◌, Bool, true, false, cond, if◌then◌else◌, ◌&&◌, eqb, leb, List, [], ◌∷◌, ◌++◌, length, Ok, Err, Result, sym, refl, ap, ◌∙◌, ap₂, mul_assoc, mul_comm, mul-le-mul_left, one-mul, mul-zero, mul-add, arith}
+use Rattle.std.proofs.Common.{◌≡◌, ℕ, zero, suc, ◌+◌, ◌*◌, ◌≤◌, Bool, true, false, cond, leb, List, [], ◌∷◌, ◌++◌, length, replicate, Ok, Err, sym, refl, ap, ◌∙◌, ap₂, mul_assoc, mul_comm, mul-le-mul_left, one-mul, mul-zero, mul-add, arith}
 use native.Mathlib.Nat.{le_of_mul-le-mul_left}
+use Rattle.std.proofs.lemmas.Bool.{false≢true}
 use Rattle.std.proofs.lemmas.Bool.Decides.{nat_tests}
 use Rattle.edetector.specs.declared.state.State.{State}
 use Rattle.edetector.specs.declared.state.State.TheVariants.{Armed, Staked, Rung}
-use Rattle.edetector.specs.declared.slip.ShownSlip.{ShownSlip}
-use Rattle.edetector.specs.declared.fault.MonitorFault.TheVariants.{Misfit}
-use Rattle.edetector.specs.declared.fault.Refused.{Refused}
-use Rattle.edetector.specs.Tables.{weigh, total, Fair, class_of}
-use Rattle.edetector.specs.Rules.{bet}
-use Rattle.edetector.specs.Bettors.{Strategy}
-use Rattle.edetector.specs.Slips.{shown_slip}
+use Rattle.edetector.specs.Tables.{weigh, total, IsFair, class_of}
+use Rattle.edetector.specs.Rules.{bet, IsRestartRule}
+use Rattle.edetector.specs.Bettors.{Meaning, IsBettor}
 use Rattle.edetector.specs.States.{is_staked}
-use Rattle.edetector.specs.Ledger.{Terms, Standing, Outcome, outcome, fresh, fitting_slip, settled, rings, grown}
-use Rattle.edetector.specs.Plans.{Plan, run, all_called, next, heard, rounds_in, alarms_in, Bound}
+use Rattle.edetector.specs.Ledger.{Terms, Standing, first_standing, after_settle, rings, ledger_after}
+use Rattle.edetector.specs.Calls.{Answer, OfStake, OfSettle, OfWithdraw, OfRearm, OfRead, is_round, is_alarm, alarms_in, rounds_in}
+use Rattle.edetector.specs.Plans.{Plan, run, Bound}
+use Rattle.edetector.specs.View.{terms}
 use Rattle.edetector.specs.Sums.{weigh_mono, weigh_add, weigh_scale}
 use Rattle.edetector.proofs.Weighing.{weigh_same, weigh_within, weigh_const, fair_step}
-use Rattle.edetector.proofs.Sequences.{over_all, weighted_is, mass, mass_more, over_none, over_plus}
-use Rattle.edetector.proofs.Fairness.{potential, potential_at, row_fair, PlaysFair, Sound, all_kept}
+use Rattle.edetector.proofs.Sequences.{over_all, over_same, weighted_is, replicate_long, mass, mass_more, over_none, over_plus}
+use Rattle.edetector.proofs.Fairness.{potential, potential_at, row_fair, Sound, all_kept}
+use Rattle.edetector.proofs.Runs.{CountsRounds, answers_from, before_settle, run_none, run_more}
 
 -- an alarm costs a, and what is left of the ledger is the potential
 paid_by : (a m : ℕ) (b : Bool) → (b ≡ true → a ≤ m) → a * cond b 1 0 + potential_at a (cond b Rung Armed) m ≡ m
@@ -32,9 +32,9 @@ one_class : (a u c al ro n left m : ℕ) → a * al ≤ u * ro + n * left → a 
 one_class a u c al ro n left m ih e =
     let split : a * (c * n + al) ≡ a * (c * n) + a * al = mul-add a (c * n) al in
     let turned : a * (c * n) ≡ n * (a * c) = sym (mul_assoc a c n) ∙ mul_comm (a * c) n in
-    let whole : n * (a * c + left) ≡ n * (a * c) + n * left = mul-add n (a * c) left in
+    let sum : n * (a * c + left) ≡ n * (a * c) + n * left = mul-add n (a * c) left in
     let same : n * (a * c + left) ≡ n * m = ap (λ x. n * x) e in
-    omega (arith, ih, split, turned, whole, same)
+    omega (arith, ih, split, turned, sum, same)
 
 -- all classes: the numbers alone
 all_classes : (u ro n w m b grow : ℕ) → grow ≤ w * b → b ≤ m + u → u * ro + n * grow ≤ u * (w * (1 * n) + ro) + (w * n) * m
@@ -51,86 +51,99 @@ all_classes u ro n w m b grow g h =
     let e6 : u * (w * (1 * n)) ≡ u * (w * n) = ap (λ x. u * x) e4 in
     omega (arith, g2, g3, g4, g5, e2, e3, e5, e6)
 
-unstaked : (ws row : List ℕ) (b : Bool) → row_fair ws (cond b Rung Armed) row
-unstaked ws row true = tt
-unstaked ws row false = tt
+only_alarms : CountsRounds is_alarm
+only_alarms (OfSettle (Ok rang)) apart = absurd (false≢true (sym apart))
+only_alarms _ apart = refl
+
+not_staked : (ws row : List ℕ) (b : Bool) → row_fair ws (cond b Rung Armed) row
+not_staked ws row true = tt
+not_staked ws row false = tt
 
 abbrev alarms_from : Terms → Plan → Standing → List ℕ → ℕ → ℕ
-alarms_from t p s past h = over_all t.nulls h (λ ks. alarms_in (run t p s past ks))
+alarms_from t p s past h = over_all (replicate h t.nulls) (λ ks. alarms_in (answers_from t p s past ks))
 
 abbrev rounds_from : Terms → Plan → Standing → List ℕ → ℕ → ℕ
-rounds_from t p s past h = over_all t.nulls h (λ ks. rounds_in (run t p s past ks))
+rounds_from t p s past h = over_all (replicate h t.nulls) (λ ks. rounds_in (answers_from t p s past ks))
 
-module _ (t : Terms) (p : Plan) (lawful : (m : ℕ) → t.base m ≤ m + bet) where
+module _ (t : Terms) (p : Plan) (rule : IsRestartRule t.base) where
   -- what is to be shown of h more classes from the state s
   abbrev Holds : ℕ → Standing → List ℕ → Type 0
-  Holds h s past = (t.threshold * bet) * alarms_from t p s past h ≤ bet * rounds_from t p s past h + mass t.nulls h * potential t s
+  Holds h s past = (t.threshold * bet) * alarms_from t p s past h ≤ bet * rounds_from t p s past h + mass (replicate h t.nulls) * potential t s
 
-  -- the same, once the calls before the next settlement have left m in the state st
-  from_staked : (h : ℕ) (m : Standing) (past : List ℕ) → Fair t.nulls m.row → ((k : ℕ) → Holds h (settled t m (class_of (length t.nulls) k)) (past ++ (k ∷ []))) →
-      (t.threshold * bet) * weigh t.nulls 0 (λ k. over_all t.nulls h (λ ks. alarms_in (rings t m (class_of (length t.nulls) k) ∷ run t p (settled t m (class_of (length t.nulls) k)) (past ++ (k ∷ [])) ks)))
-      ≤ bet * weigh t.nulls 0 (λ k. over_all t.nulls h (λ ks. rounds_in (rings t m (class_of (length t.nulls) k) ∷ run t p (settled t m (class_of (length t.nulls) k)) (past ++ (k ∷ [])) ks)))
-      + mass t.nulls (suc h) * m.ledger
+  -- a settle of class k, with what is counted behind it
+  abbrev counted : (Standing → List ℕ → List ℕ → ℕ) → (ℕ → ℕ) → Standing → List ℕ → ℕ → ℕ → ℕ
+  counted f here m past h k =
+      let c = class_of (length t.nulls) k in over_all (replicate h t.nulls) (λ ks. here c + f (after_settle t m c) (past ++ (k ∷ [])) ks)
+
+  abbrev alarm_here : Standing → ℕ → ℕ
+  alarm_here m c = cond (rings t m c) 1 0
+
+  abbrev alarms : Standing → List ℕ → List ℕ → ℕ
+  alarms s past ks = alarms_in (answers_from t p s past ks)
+
+  abbrev rounds : Standing → List ℕ → List ℕ → ℕ
+  rounds s past ks = rounds_in (answers_from t p s past ks)
+
+  -- the same, once the calls before the next settlement have left m, staked
+  from_staked : (h : ℕ) (m : Standing) (past : List ℕ) → IsFair t.nulls m.row → ((k : ℕ) → Holds h (after_settle t m (class_of (length t.nulls) k)) (past ++ (k ∷ []))) →
+      (t.threshold * bet) * weigh t.nulls 0 (counted alarms (alarm_here m) m past h)
+      ≤ bet * weigh t.nulls 0 (counted rounds (λ c. 1) m past h) + mass (replicate (suc h) t.nulls) * m.ledger
   from_staked h m past fair ih =
       let ws = t.nulls in
       let a = t.threshold * bet in
-      let n = mass ws h in
-      let clamped : ℕ → ℕ = λ k. grown t m (class_of (length t.nulls) k) in
-      let same-grown : weigh ws 0 clamped ≡ weigh ws 0 (grown t m) = weigh_within ws 0 clamped (grown t m) (λ k l. ap (grown t m) (omega arith)) in
-      let al : ℕ → ℕ = λ k. alarms_from t p (settled t m (class_of (length t.nulls) k)) (past ++ (k ∷ [])) h in
-      let ro : ℕ → ℕ = λ k. rounds_from t p (settled t m (class_of (length t.nulls) k)) (past ++ (k ∷ [])) h in
-      let c : ℕ → ℕ = λ k. cond (rings t m (class_of (length t.nulls) k)) 1 0 in
-      let each : (k : ℕ) → a * (c k * n + al k) ≤ bet * ro k + n * grown t m (class_of (length t.nulls) k) = λ k. one_class a bet (c k) (al k) (ro k) n (potential t (settled t m (class_of (length t.nulls) k))) (grown t m (class_of (length t.nulls) k)) (ih k) (paid a (grown t m (class_of (length t.nulls) k))) in
-      let alarms-are = weigh_same ws 0 (λ k. over_all ws h (λ ks. c k + alarms_in (run t p (settled t m (class_of (length t.nulls) k)) (past ++ (k ∷ [])) ks))) (λ k. c k * n + al k) (λ k. over_plus ws h (c k) (λ ks. alarms_in (run t p (settled t m (class_of (length t.nulls) k)) (past ++ (k ∷ [])) ks))) in
-      let rounds-are = weigh_same ws 0 (λ k. over_all ws h (λ ks. 1 + rounds_in (run t p (settled t m (class_of (length t.nulls) k)) (past ++ (k ∷ [])) ks))) (λ k. 1 * n + ro k) (λ k. over_plus ws h 1 (λ ks. rounds_in (run t p (settled t m (class_of (length t.nulls) k)) (past ++ (k ∷ [])) ks))) in
-      let summed : weigh ws 0 (λ k. a * (c k * n + al k)) ≤ weigh ws 0 (λ k. bet * ro k + n * grown t m (class_of (length t.nulls) k)) = weigh_mono ws 0 (λ k. a * (c k * n + al k)) (λ k. bet * ro k + n * grown t m (class_of (length t.nulls) k)) each in
+      let n = mass (replicate h ws) in
+      let clamped : ℕ → ℕ = λ k. ledger_after t m (class_of (length t.nulls) k) in
+      let same-ledger : weigh ws 0 clamped ≡ weigh ws 0 (ledger_after t m) = weigh_within ws 0 clamped (ledger_after t m) (λ k l. ap (ledger_after t m) (omega arith)) in
+      let al : ℕ → ℕ = λ k. alarms_from t p (after_settle t m (class_of (length t.nulls) k)) (past ++ (k ∷ [])) h in
+      let ro : ℕ → ℕ = λ k. rounds_from t p (after_settle t m (class_of (length t.nulls) k)) (past ++ (k ∷ [])) h in
+      let c : ℕ → ℕ = λ k. alarm_here m (class_of (length t.nulls) k) in
+      let each : (k : ℕ) → a * (c k * n + al k) ≤ bet * ro k + n * clamped k = λ k. one_class a bet (c k) (al k) (ro k) n (potential t (after_settle t m (class_of (length t.nulls) k))) (clamped k) (ih k) (paid a (clamped k)) in
+      let alarms-are = weigh_same ws 0 (counted alarms (alarm_here m) m past h) (λ k. c k * n + al k) (λ k. over_plus (replicate h ws) (c k) (alarms (after_settle t m (class_of (length t.nulls) k)) (past ++ (k ∷ [])))) in
+      let rounds-are = weigh_same ws 0 (counted rounds (λ x. 1) m past h) (λ k. 1 * n + ro k) (λ k. over_plus (replicate h ws) 1 (rounds (after_settle t m (class_of (length t.nulls) k)) (past ++ (k ∷ [])))) in
+      let summed : weigh ws 0 (λ k. a * (c k * n + al k)) ≤ weigh ws 0 (λ k. bet * ro k + n * clamped k) = weigh_mono ws 0 (λ k. a * (c k * n + al k)) (λ k. bet * ro k + n * clamped k) each in
       let left : weigh ws 0 (λ k. a * (c k * n + al k)) ≡ a * weigh ws 0 (λ k. c k * n + al k) = weigh_scale ws 0 a (λ k. c k * n + al k) in
-      let right : weigh ws 0 (λ k. bet * ro k + n * grown t m (class_of (length t.nulls) k)) ≡ bet * weigh ws 0 ro + n * weigh ws 0 clamped =
-      weigh_add ws 0 (λ k. bet * ro k) (λ k. n * grown t m (class_of (length t.nulls) k)) ∙ ap₂ (λ x y. x + y) (weigh_scale ws 0 bet ro) (weigh_scale ws 0 n clamped) in
-      let numbers = all_classes bet (weigh ws 0 ro) n (total ws) m.ledger (t.base m.ledger) (weigh ws 0 clamped) (rw same-grown (fair_step ws m.row (t.base m.ledger) fair)) (lawful m.ledger) in
+      let right : weigh ws 0 (λ k. bet * ro k + n * clamped k) ≡ bet * weigh ws 0 ro + n * weigh ws 0 clamped =
+      weigh_add ws 0 (λ k. bet * ro k) (λ k. n * clamped k) ∙ ap₂ (λ x y. x + y) (weigh_scale ws 0 bet ro) (weigh_scale ws 0 n clamped) in
+      let numbers = all_classes bet (weigh ws 0 ro) n (total ws) m.ledger (t.base m.ledger) (weigh ws 0 clamped) (rw same-ledger (fair_step ws m.row (t.base m.ledger) fair)) (rule.at_most_a_bet m.ledger) in
       let rounds-sum : weigh ws 0 (λ k. 1 * n + ro k) ≡ total ws * (1 * n) + weigh ws 0 ro = weigh_add ws 0 (λ k. 1 * n) ro ∙ ap (λ x. x + weigh ws 0 ro) (weigh_const ws 0 (1 * n)) in
-      rw (alarms-are, rounds-are, rounds-sum, mass_more ws h) (omega (arith, summed, left, right, numbers))
+      rw (alarms-are, rounds-are, rounds-sum, mass_more ws (replicate h ws)) (omega (arith, summed, left, right, numbers))
 
-  -- what an accepted settle of class k answers and leaves
-  abbrev accepted : Standing → ℕ → Outcome (Result Bool (Refused ShownSlip))
-  accepted m k = outcome (Ok (rings t m (class_of (length t.nulls) k))) (settled t m (class_of (length t.nulls) k))
+  -- the same, where a plan's calls have left m in the state st
+  abbrev counted_if : Bool → (Standing → List ℕ → List ℕ → ℕ) → (ℕ → ℕ) → Standing → List ℕ → ℕ → ℕ → ℕ
+  counted_if b f here m past h k =
+      let c = class_of (length t.nulls) k in over_all (replicate h t.nulls) (λ ks. cond b (here c + f (after_settle t m c) (past ++ (k ∷ [])) ks) 0)
 
-  -- the fitting slip is accepted
-  next_is : (m : Standing) (k : ℕ) → m.state ≡ Staked → next t m k ≡ accepted m k
-  next_is m k e =
-      let tags : eqb t.tag t.tag ≡ true = grind (arith, nat_tests) in
-      let numbers : eqb (m.rounds + 1) (m.rounds + 1) ≡ true = grind (arith, nat_tests) in
-      let slip = shown_slip (fitting_slip t m) k in
-      ap (λ b. cond b (accepted m k) (outcome (Err (record { fault = Misfit; slip = slip })) m)) (ap₂ (λ s b. is_staked s && b) e (ap₂ (λ x y. x && y) tags numbers))
-
-  by_state : (h : ℕ) (m : Standing) (past : List ℕ) (st : State) → m.state ≡ st → row_fair t.nulls st m.row → ((k : ℕ) → Holds h (settled t m (class_of (length t.nulls) k)) (past ++ (k ∷ []))) →
-      (t.threshold * bet) * weigh t.nulls 0 (λ k. over_all t.nulls h (λ ks. alarms_in (if is_staked st then heard (next t m k).answer (run t p (next t m k).after (past ++ (k ∷ [])) ks) else [])))
-      ≤ bet * weigh t.nulls 0 (λ k. over_all t.nulls h (λ ks. rounds_in (if is_staked st then heard (next t m k).answer (run t p (next t m k).after (past ++ (k ∷ [])) ks) else [])))
-      + mass t.nulls (suc h) * potential_at (t.threshold * bet) st m.ledger
-  by_state h m past Armed e fair ih = rw (over_none t.nulls (suc h), mul-zero) (omega arith)
-  by_state h m past Staked e fair ih =
-      let ws = t.nulls in
-      let of : (List Bool → ℕ) → Outcome (Result Bool (Refused ShownSlip)) → ℕ → ℕ = λ f x k. over_all ws h (λ ks. f (heard x.answer (run t p x.after (past ++ (k ∷ [])) ks))) in
-      let alarms-same = weigh_same ws 0 (λ k. of alarms_in (next t m k) k) (λ k. of alarms_in (accepted m k) k) (λ k. ap (λ x. of alarms_in x k) (next_is m k e)) in
-      let rounds-same = weigh_same ws 0 (λ k. of rounds_in (next t m k) k) (λ k. of rounds_in (accepted m k) k) (λ k. ap (λ x. of rounds_in x k) (next_is m k e)) in
-      rw (alarms-same, rounds-same) (from_staked h m past fair ih)
-  by_state h m past Rung e fair ih = rw (over_none t.nulls (suc h), mul-zero) (omega arith)
+  by_state : (h : ℕ) (m : Standing) (past : List ℕ) (st : State) → row_fair t.nulls st m.row → ((k : ℕ) → Holds h (after_settle t m (class_of (length t.nulls) k)) (past ++ (k ∷ []))) →
+      (t.threshold * bet) * weigh t.nulls 0 (counted_if (is_staked st) alarms (alarm_here m) m past h)
+      ≤ bet * weigh t.nulls 0 (counted_if (is_staked st) rounds (λ c. 1) m past h) + mass (replicate (suc h) t.nulls) * potential_at (t.threshold * bet) st m.ledger
+  by_state h m past Armed fair ih = rw (over_none (replicate (suc h) t.nulls), mul-zero) (omega arith)
+  by_state h m past Staked fair ih = from_staked h m past fair ih
+  by_state h m past Rung fair ih = rw (over_none (replicate (suc h) t.nulls), mul-zero) (omega arith)
 
   holds : (h : ℕ) (s : Standing) (past : List ℕ) → Sound t s → Holds h s past
-  holds zero s past ok = rw (mul-zero) (omega arith)
+  holds zero s past ok = rw (run_none is_alarm only_alarms t p s past, mul-zero) (omega arith)
   holds (suc h) s past ok =
-      let m = all_called t s (p past) in
+      let ws = t.nulls in
+      let m = before_settle t p s past in
       let kept = all_kept t s (p past) ok in
-      let more = mul-le-mul_left (mass t.nulls (suc h)) kept.1 in
-      let step = by_state h m past m.state refl kept.0.1 (λ k. holds h (settled t m (class_of (length t.nulls) k)) (past ++ (k ∷ [])) ((λ later. kept.0.0 (class_of (length t.nulls) k ∷ later)), unstaked t.nulls [] (rings t m (class_of (length t.nulls) k)))) in
-      omega (arith, step, more)
+      let more = mul-le-mul_left (mass (replicate (suc h) ws)) kept.1 in
+      let step = by_state h m past m.state kept.0.1 (λ k. holds h (after_settle t m (class_of (length ws) k)) (past ++ (k ∷ [])) ((λ later. kept.0.0 (class_of (length ws) k ∷ later)), not_staked ws [] (rings t m (class_of (length ws) k)))) in
+      let alarms-are : alarms_from t p s past (suc h) ≡ weigh ws 0 (counted_if (is_staked m.state) alarms (alarm_here m) m past h) =
+      weigh_same ws 0 _ _ (λ k. over_same (replicate h ws) _ _ (λ ks. run_more is_alarm only_alarms t p s past k ks)) in
+      let rounds-are : rounds_from t p s past (suc h) ≡ weigh ws 0 (counted_if (is_staked m.state) rounds (λ c. 1) m past h) =
+      weigh_same ws 0 _ _ (λ k. over_same (replicate h ws) _ _ (λ ks. run_more is_round (λ a apart. apart) t p s past k ks)) in
+      omega (arith, step, more, ap (λ n. (t.threshold * bet) * n) alarms-are, rounds-are)
 
-pub bound : (t : Terms) (play : Strategy) → ((m : ℕ) → t.base m ≤ m + bet) → PlaysFair t.nulls play → Bound t play
-bound t play lawful fair h p =
-    let all = holds t p lawful h (fresh play) [] (fair, tt) in
-    let al = alarms_from t p (fresh play) [] h in
-    let ro = rounds_from t p (fresh play) [] h in
+pub bound : (m : Meaning) (base : ℕ → ℕ) (threshold tag : ℕ) → IsRestartRule base → IsBettor m → Bound (terms m.nulls base threshold) tag m.strategy
+bound m base threshold tag rule bettor h p =
+    let t = terms m.nulls base threshold in
+    let tables = replicate h t.nulls in
+    let long = replicate_long t.nulls h in
+    let s = first_standing t tag m.strategy in
+    let all = holds t p rule h s [] (bettor.fair, tt) in
+    let al = alarms_from t p s [] h in
+    let ro = rounds_from t p s [] h in
     let turned : (t.threshold * bet) * al ≡ bet * (t.threshold * al) = ap (λ x. x * al) (mul_comm t.threshold bet) ∙ mul_assoc bet t.threshold al in
-    let none = mul-zero (mass t.nulls h) in
+    let none = mul-zero (mass tables) in
     let scaled : bet * (t.threshold * al) ≤ bet * ro = omega (arith, all, turned, none) in
-    rw (weighted_is t.nulls h (λ ks. alarms_in (run t p (fresh play) [] ks)), weighted_is t.nulls h (λ ks. rounds_in (run t p (fresh play) [] ks))) (le_of_mul-le-mul_left scaled (omega arith))
+    rw (weighted_is (length t.nulls) tables (λ ks. alarms_in (run t p s ks)) long, weighted_is (length t.nulls) tables (λ ks. rounds_in (run t p s ks)) long) (le_of_mul-le-mul_left scaled (omega arith))

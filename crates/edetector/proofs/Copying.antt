@@ -1,28 +1,49 @@
 -- Rows of sixteen factors, read place by place.
-use Rattle.std.proofs.Common.{◌≡◌, ℕ, ◌+◌, ◌/◌, ◌<◌, ◌≤◌, List, length, get_or, slice_index_or, sym, refl, ◌∙◌, ⊎_elim, arith}
-use Rattle.std.proofs.lemmas.List.{length-map, get_or_past}
+use Rattle.std.proofs.Common.{◌≡◌, ℕ, zero, suc, ◌+◌, ◌-◌, ◌/◌, ◌<◌, ◌≤◌, List, [], ◌∷◌, ◌++◌, length, replicate, get_or, slice_index_or, sym, refl, ap, ◌∙◌, ⊎_elim, arith, length-append}
+use Rattle.std.proofs.lemmas.List.{length-map, length-replicate, get_or_past, get_or_append_left, get_or-append_right, get_or-replicate, ext_get_or}
 use Rattle.std.proofs.lemmas.Bool.{cases_lt}
 use Rattle.edetector.specs.declared.units.Factor.{Factor}
-use Rattle.edetector.specs.Units.{factors_in}
+use Rattle.edetector.specs.Units.{factors_in, padded}
+use Rattle.edetector.specs.Bettors.{averages}
+use Rattle.edetector.specs.Mixing.{averages_long}
 use Rattle.edetector.proofs.Lists.{number_at}
+
+zeros_at : (n k : ℕ) → get_or (replicate {A = ℕ} n 0) k 0 ≡ 0
+zeros_at n k =
+    ⊎_elim (λ h. get_or-replicate n k 0 0 h) (λ h. get_or_past (replicate {A = ℕ} n 0) k 0 (omega (arith, h, length-replicate {A = ℕ} n 0))) (cases_lt k n)
 
 -- a factor read at a place
 pub factor_at : (row : List Factor) (k : ℕ) → (get_or row k (record { 0 = 0 })).0 ≡ get_or (factors_in row) k 0
 factor_at row k = number_at (λ e. e.0) (record { 0 = 0 }) refl row k
 
--- a row whose sixteen factors are those that e names, with nothing named past them
-pub row_named : (row : List Factor) (e : ℕ → ℕ) → length row ≡ 16 → ((k : ℕ) → 16 ≤ k → e k ≡ 0) → ((k : ℕ) (d : Factor) → 0 ≤ k → k < 16 → (slice_index_or row k d).0 ≡ e k) → (k : ℕ) → get_or (factors_in row) k 0 ≡ e k
-row_named row e long none each k =
-    ⊎_elim (λ h. sym (factor_at row k) ∙ each k (record { 0 = 0 }) (omega arith) h)
-    (λ h. get_or_past (factors_in row) k 0 (omega (arith, length-map row (λ e. e.0), long)) ∙ sym (none k h))
-    (cases_lt k 16)
+-- a row with zeros behind it, read at a place
+pub padded_at : (es : List ℕ) (k : ℕ) → get_or (padded es) k 0 ≡ get_or es k 0
+padded_at es k =
+    ⊎_elim (λ h. get_or_append_left es (replicate (16 - length es) 0) 0 k h)
+    (λ h. get_or-append_right es (replicate (16 - length es) 0) (length es) k 0 refl h ∙ zeros_at (16 - length es) (k - length es) ∙ sym (get_or_past es k 0 h))
+    (cases_lt k (length es))
 
--- half the sum of what two rows have at a place
-abbrev pub average_at : List Factor → List Factor → ℕ → ℕ
-average_at f g k = (get_or (factors_in f) k 0 + get_or (factors_in g) k 0) / 2
+-- a row of sixteen whose factors are those of es, and none past them
+pub row_padded : (row : List Factor) (es : List ℕ) → length row ≡ 16 → length es ≤ 16 → ((k : ℕ) (d : Factor) → 0 ≤ k → k < 16 → (slice_index_or row k d).0 ≡ get_or es k 0) → factors_in row ≡ padded es
+row_padded row es long few each =
+    let numbers = length-map row (λ e. e.0) in
+    let wide : length (padded es) ≡ 16 = omega (arith, length-append es (replicate (16 - length es) 0), length-replicate {A = ℕ} (16 - length es) 0, few) in
+    ext_get_or 0 (factors_in row) (padded es) (omega (arith, numbers, wide, long))
+    (λ k h. sym (factor_at row k) ∙ each k (record { 0 = 0 }) (omega arith) (omega (arith, h, numbers, long)) ∙ sym (padded_at es k))
 
-pub average_past : (f g : List Factor) → length f ≡ 16 → length g ≡ 16 → (k : ℕ) → 16 ≤ k → average_at f g k ≡ 0
-average_past f g lf lg k h =
-    let a = get_or_past (factors_in f) k 0 (omega (arith, length-map f (λ e. e.0), lf)) in
-    let b = get_or_past (factors_in g) k 0 (omega (arith, length-map g (λ e. e.0), lg)) in
-    rw (a, b) refl
+-- half the sum of two rows that have zeros behind them
+averages_zeros : (n : ℕ) → averages (replicate n 0) (replicate n 0) ≡ replicate n 0
+averages_zeros zero = refl
+averages_zeros (suc n) = ap (λ l. 0 ∷ l) (averages_zeros n)
+
+averages_behind : (n : ℕ) (f g : List ℕ) → length f ≡ length g → averages (f ++ replicate n 0) (g ++ replicate n 0) ≡ averages f g ++ replicate n 0
+averages_behind n [] [] e = averages_zeros n
+averages_behind n [] (y ∷ g) e = absurd (omega arith)
+averages_behind n (x ∷ f) [] e = absurd (omega arith)
+averages_behind n (x ∷ f) (y ∷ g) e = ap (λ l. (x + y) / 2 ∷ l) (averages_behind n f g (omega arith))
+
+pub padded_averages : (f g : List ℕ) → length f ≡ length g → averages (padded f) (padded g) ≡ padded (averages f g)
+padded_averages f g e =
+    ap (λ n. averages (padded f) (g ++ replicate (16 - n) 0)) (sym e)
+    ∙ averages_behind (16 - length f) f g e
+    ∙ ap (λ n. averages f g ++ replicate (16 - n) 0) (sym (averages_long f g e))

@@ -1,16 +1,19 @@
--- What the calls before a settlement keep: rows that are fair, and a potential that does not grow.
-use Rattle.std.proofs.Common.{ℕ, ◌+◌, ◌-◌, ◌*◌, ◌≤◌, Bool, true, false, cond, ◌&&◌, eqb, ltb, List, [], ◌∷◌, length, Ok, Err, le_trans, le_refl, arith}
+-- What the calls of a plan keep between settlements: rows that are fair, and a potential that does not grow.
+use Rattle.std.proofs.Common.{◌≡◌, ℕ, ◌+◌, ◌-◌, ◌*◌, ◌≤◌, Bool, true, false, cond, ◌&&◌, eqb, ltb, List, [], ◌∷◌, length, Ok, Err, Result, ap, ◌∙◌, le_trans, le_refl, arith}
+use Rattle.std.proofs.lemmas.Bool.{cond_both}
 use Rattle.edetector.specs.declared.state.State.{State}
 use Rattle.edetector.specs.declared.state.State.TheVariants.{Armed, Staked, Rung}
-use Rattle.edetector.specs.Tables.{Fair, class_of}
 use Rattle.edetector.specs.declared.fault.MonitorFault.TheVariants.{Misfit, Spent}
+use Rattle.edetector.specs.declared.slip.ShownSlip.{ShownSlip}
+use Rattle.edetector.specs.declared.fault.Refused.{Refused}
+use Rattle.edetector.specs.Tables.{IsFair, class_of}
 use Rattle.edetector.specs.Rules.{bet}
 use Rattle.edetector.specs.States.{most_rounds}
 use Rattle.edetector.specs.Bettors.{Strategy}
-use Rattle.edetector.specs.Ledger.{Terms, Standing, Outcome, outcome, fitting_slip, rings, staked, settled, withdrawn}
+use Rattle.edetector.specs.Ledger.{Terms, Standing, Outcome, outcome, next_slip, is_fitting, misfit, rings, after_stake, after_settle, after_withdraw, settle_outcome}
 use Rattle.edetector.specs.View.{standing}
-use Rattle.edetector.specs.Plans.{Call, called, all_called}
-use Rattle.edetector.specs.Plans.Call.{Stake, Withdraw, Rearm, Read, SettleStray, WithdrawStray}
+use Rattle.edetector.specs.Calls.{Call, Stake, Settle, Withdraw, Rearm, Read, call_outcome, calls_outcome}
+use Rattle.edetector.specs.Plans.{settles, plan_calls}
 
 abbrev pub potential_at : ℕ → State → ℕ → ℕ
 potential_at a Armed m = m
@@ -22,14 +25,14 @@ potential t s = potential_at (t.threshold * bet) s.state s.ledger
 
 abbrev pub row_fair : List ℕ → State → List ℕ → Type 0
 row_fair ws Armed row = Unit {0}
-row_fair ws Staked row = Fair ws row
+row_fair ws Staked row = IsFair ws row
 row_fair ws Rung row = Unit {0}
 
 abbrev pub PlaysFair : List ℕ → Strategy → Type 0
-PlaysFair ws play = (later : List ℕ) → Fair ws (play later)
+PlaysFair ws strategy = (later : List ℕ) → IsFair ws (strategy later)
 
 abbrev pub Sound : Terms → Standing → Type 0
-Sound t s = PlaysFair t.nulls s.play × row_fair t.nulls s.state s.row
+Sound t s = PlaysFair t.nulls s.strategy × row_fair t.nulls s.state s.row
 
 -- s' is sound, with no more potential than s
 abbrev pub Kept : Terms → Standing → Standing → Type 0
@@ -39,46 +42,38 @@ either_way : {X : Type 0} (P : Standing → Type 0) (b : Bool) (x y : Outcome X)
 either_way P true x y p q = p
 either_way P false x y p q = q
 
--- a call with a slip that fits is not made, and any other is refused
-stray : {X : Type 0} (P : Standing → Type 0) (b : Bool) (s : Standing) (x y : Outcome X) → P s → P y.after → P (cond b s (cond b x y).after)
-stray P true s x y p q = p
-stray P false s x y p q = q
-
-in_state : (t : Terms) (st : State) (m r al : ℕ) (row : List ℕ) (play : Strategy) (c : Call) → Sound t (standing st m r al row play) → Kept t (standing st m r al row play) (called t (standing st m r al row play) c)
-in_state t Armed m r al row play Stake ok =
-    let s = standing Armed m r al row play in
-    either_way (Kept t s) (ltb r most_rounds) (outcome (Ok (fitting_slip t s)) (staked s)) (outcome (Err Spent) s) ((ok.0, ok.0 []), le_refl m) (ok, le_refl m)
-in_state t Staked m r al row play Stake ok = (ok, le_refl _)
-in_state t Rung m r al row play Stake ok = (ok, le_refl _)
-in_state t Armed m r al row play Withdraw ok = (ok, le_refl _)
-in_state t Staked m r al row play Withdraw ok =
-    let s = standing Staked m r al row play in
-    either_way (Kept t s) (eqb t.tag t.tag && eqb (r + 1) (r + 1)) (outcome (Ok tt) (withdrawn s)) (outcome (Err (record { fault = Misfit; slip = fitting_slip t s })) s) ((ok.0, tt), le_refl m) (ok, le_refl m)
-in_state t Rung m r al row play Withdraw ok = (ok, le_refl _)
-in_state t Armed m r al row play Rearm ok = ((ok.0, tt), omega arith)
-in_state t Staked m r al row play Rearm ok = (ok, le_refl _)
-in_state t Rung m r al row play Rearm ok = ((ok.0, tt), omega arith)
-in_state t Armed m r al row play Read ok = (ok, le_refl _)
-in_state t Staked m r al row play Read ok = (ok, le_refl _)
-in_state t Rung m r al row play Read ok = (ok, le_refl _)
-in_state t Armed m r al row play (SettleStray slip) ok = (ok, le_refl _)
-in_state t Staked m r al row play (SettleStray slip) ok =
-    let s = standing Staked m r al row play in
+-- a settle that does not fit leaves all as it is
+pub misfits : (t : Terms) (s : Standing) (slip : ShownSlip) → is_fitting s slip.stake ≡ false → settle_outcome t s slip ≡ misfit s slip
+misfits t s slip e =
     let k = class_of (length t.nulls) slip.count in
-    stray (Kept t s) (eqb slip.tag t.tag && eqb slip.number (r + 1)) s (outcome (Ok (rings t s k)) (settled t s k)) (outcome (Err (record { fault = Misfit; slip = slip })) s) (ok, le_refl m) (ok, le_refl m)
-in_state t Rung m r al row play (SettleStray slip) ok = (ok, le_refl _)
-in_state t Armed m r al row play (WithdrawStray slip) ok = (ok, le_refl _)
-in_state t Staked m r al row play (WithdrawStray slip) ok =
-    let s = standing Staked m r al row play in
-    stray (Kept t s) (eqb slip.tag t.tag && eqb slip.number (r + 1)) s (outcome (Ok tt) (withdrawn s)) (outcome (Err (record { fault = Misfit; slip = slip })) s) (ok, le_refl m) (ok, le_refl m)
-in_state t Rung m r al row play (WithdrawStray slip) ok = (ok, le_refl _)
+    ap (λ b. cond b (outcome {X = Result Bool (Refused ShownSlip)} (Ok (rings t s k)) (after_settle t s k)) (misfit s slip)) e
 
-pub called_kept : (t : Terms) (s : Standing) (c : Call) → Sound t s → Kept t s (called t s c)
-called_kept t s c ok = in_state t s.state s.ledger s.rounds s.alarms s.row s.play c ok
+in_state : (t : Terms) (tag : ℕ) (st : State) (m r al : ℕ) (row : List ℕ) (strategy : Strategy) (c : Call) → let s = standing tag st m r al row strategy in settles s c ≡ false → Sound t s → Kept t s (call_outcome t s c).after
+in_state t tag Armed m r al row strategy Stake apart ok =
+    let s = standing tag Armed m r al row strategy in
+    either_way (Kept t s) (ltb r most_rounds) (outcome (Ok (next_slip s)) (after_stake s)) (outcome (Err Spent) s) ((ok.0, ok.0 []), le_refl m) (ok, le_refl m)
+in_state t tag Staked m r al row strategy Stake apart ok = (ok, le_refl _)
+in_state t tag Rung m r al row strategy Stake apart ok = (ok, le_refl _)
+in_state t tag st m r al row strategy (Settle slip) apart ok =
+    let s = standing tag st m r al row strategy in
+    rw (misfits t s slip apart) (ok, le_refl _)
+in_state t tag Armed m r al row strategy (Withdraw slip) apart ok = (ok, le_refl _)
+in_state t tag Staked m r al row strategy (Withdraw slip) apart ok =
+    let s = standing tag Staked m r al row strategy in
+    either_way (Kept t s) (eqb slip.tag tag && eqb slip.number (r + 1)) (outcome (Ok tt) (after_withdraw s)) (outcome (Err (record { fault = Misfit; slip = slip })) s) ((ok.0, tt), le_refl m) (ok, le_refl m)
+in_state t tag Rung m r al row strategy (Withdraw slip) apart ok = (ok, le_refl _)
+in_state t tag Armed m r al row strategy Rearm apart ok = ((ok.0, tt), omega arith)
+in_state t tag Staked m r al row strategy Rearm apart ok = (ok, le_refl _)
+in_state t tag Rung m r al row strategy Rearm apart ok = ((ok.0, tt), omega arith)
+in_state t tag st m r al row strategy Read apart ok = (ok, le_refl _)
 
-pub all_kept : (t : Terms) (s : Standing) (cs : List Call) → Sound t s → Kept t s (all_called t s cs)
+pub call_kept : (t : Terms) (s : Standing) (c : Call) → settles s c ≡ false → Sound t s → Kept t s (call_outcome t s c).after
+call_kept t s c apart ok = in_state t s.tag s.state s.ledger s.rounds s.alarms s.row s.strategy c apart ok
+
+pub all_kept : (t : Terms) (s : Standing) (cs : List Call) → Sound t s → Kept t s (calls_outcome t s (plan_calls t s cs)).after
 all_kept t s [] ok = (ok, le_refl _)
 all_kept t s (c ∷ cs) ok =
-    let one = called_kept t s c ok in
-    let rest = all_kept t (called t s c) cs one.0 in
-    (rest.0, le_trans rest.1 one.1)
+    let next = (call_outcome t s c).after in
+    cond_both (settles s c) (plan_calls t s cs) (c ∷ plan_calls t next cs) (λ cs'. Kept t s (calls_outcome t s cs').after)
+    (λ left_out. all_kept t s cs ok)
+    (λ apart. let one = call_kept t s c apart ok in let rest = all_kept t next cs one.0 in (rest.0, le_trans rest.1 one.1))

@@ -5,7 +5,7 @@ use Rattle.std.proofs.lemmas.List.{get_or_past}
 use Rattle.edetector.specs.declared.table.Table.{Table}
 use Rattle.edetector.specs.Tables.{total}
 use Rattle.edetector.specs.Weights.{null_weights, alternative_weights}
-use Rattle.edetector.specs.Bettors.{ratio, fixed}
+use Rattle.edetector.specs.Bettors.{ratio, fixed_strategy}
 use Rattle.edetector.specs.Held.{null_long, is_null_table}
 use Rattle.edetector.specs.Fixing.{fixed_level, fixed_long}
 use Rattle.edetector.proofs.Lists.{getD_le_total}
@@ -36,12 +36,12 @@ module _ (null : Table 1) (alternative : Table 0) (level : alternative.classes �
     pub alternative_part : alternative_at k ≤ alternative.whole
     alternative_part = omega (arith, alternative_is, getD_le_total (alternative_weights alternative) k, alternative.sums)
 
-    pub factor_is : ratio null.whole alternative.whole (null_at k) (alternative_at k) ≡ slice_index (fixed (null_weights null) (alternative_weights alternative) []) k
+    pub factor_is : ratio null.whole alternative.whole (null_at k) (alternative_at k) ≡ slice_index (fixed_strategy (null_weights null) (alternative_weights alternative) []) k
     factor_is =
         let ws = null_weights null in
         let alts = alternative_weights alternative in
         let at = ratios_at (total ws) (total alts) ws alts (fixed_level null alternative level) k (omega (arith, null_long null)) in
         sym (at ∙ ap₂ (λ x y. x / y) (ap₂ (λ x y. 4096 * x * y) (sym alternative_is) null.sums) (ap₂ (λ x y. x * y) alternative.sums (sym null_is)))
 
-  pub factor_past : (k : ℕ) → null.classes ≤ k → 0 ≡ slice_index (fixed (null_weights null) (alternative_weights alternative) []) k
-  factor_past k h = sym (get_or_past (fixed (null_weights null) (alternative_weights alternative) []) k 0 (omega (arith, fixed_long null alternative level, null_long null)))
+  pub factor_past : (k : ℕ) → null.classes ≤ k → 0 ≡ slice_index (fixed_strategy (null_weights null) (alternative_weights alternative) []) k
+  factor_past k h = sym (get_or_past (fixed_strategy (null_weights null) (alternative_weights alternative) []) k 0 (omega (arith, fixed_long null alternative level, null_long null)))

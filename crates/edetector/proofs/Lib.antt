@@ -1,3 +1,4 @@
+pub mod AnyCalls
 pub mod Bounded
 pub mod Copying
 pub mod Fairness
@@ -10,6 +11,7 @@ pub mod Ratios
 pub mod RatiosAt
 pub mod Reading
 pub mod Rows
+pub mod Runs
 pub mod SameTables
 pub mod Sequences
 pub mod TallyReads

@@ -1,56 +1,50 @@
 -- A mixture's row read at a class, and what one class learned does.
 use Rattle.std.specs.Prelude.{◌≡◌, ℕ, ◌+◌, ◌/◌, ◌<◌, ◌≤◌, Bool, true, false, cond, List, length, nat_lt, slice_index, refl}
-use Rattle.std.proofs.Common.{sym, ap, subst, ◌∙◌, arith, ⊎_elim}
-use Rattle.std.proofs.lemmas.Bool.{cases_lt, cond-false}
+use Rattle.std.proofs.Common.{sym, ap, ◌∙◌, arith, ⊎_elim}
+use Rattle.std.proofs.lemmas.Bool.{cases_lt, cond-false, cond-true, cond_both}
 use Rattle.std.proofs.lemmas.Bool.Decides.{nat_tests}
-use Rattle.edetector.specs.Bettors.{Strategy, after_class, learned, LearnStep, same_table, averages, mixed, mixture}
+use Rattle.edetector.specs.Bettors.{Meaning, strategy_after, meaning_after, same_table, averages, mixed_row, mixture}
 use Rattle.edetector.specs.Mixing.{same_from, averages_at, level}
 
 module _ (ws vs f g : List ℕ) (long-f : length f ≡ length ws) (long-g : length g ≡ length vs) where
-  pub mixed_at : (k : ℕ) → same_table ws vs ≡ true → slice_index (mixed ws vs f g) k ≡ (slice_index f k + slice_index g k) / 2
+  pub mixed_at : (k : ℕ) → same_table ws vs ≡ true → slice_index (mixed_row ws vs f g) k ≡ (slice_index f k + slice_index g k) / 2
   mixed_at k h = ap (λ b. slice_index (cond b (averages f g) f) k) h ∙ averages_at f g (level ws vs f g long-f long-g h) k
 
-  pub mixed_first : (k : ℕ) → same_table ws vs ≡ false → slice_index (mixed ws vs f g) k ≡ slice_index f k
+  pub mixed_first : (k : ℕ) → same_table ws vs ≡ false → slice_index (mixed_row ws vs f g) k ≡ slice_index f k
   mixed_first k h = ap (λ b. slice_index (cond b (averages f g) f) k) h
 
--- learning, where the tables are the same
-learn_alike : (b s : Bool) (p q : Strategy) (k : ℕ) →
-    ◌≡◌ {A = Strategy} (λ later. cond s (averages (cond b (after_class p k) p later) (cond b (after_class q k) q later)) (cond b (after_class p k) p later))
-    (cond b (after_class (λ later. cond s (averages (p later) (q later)) (p later)) k) (λ later. cond s (averages (p later) (q later)) (p later)))
-learn_alike true s p q k = refl
-learn_alike false s p q k = refl
+-- the meaning once k, which is a class, is learned
+abbrev after : Meaning → ℕ → Meaning
+after m k = record m { strategy = strategy_after m.strategy k }
 
-learn_apart : (b c : Bool) (p q : Strategy) (k : ℕ) →
-    ◌≡◌ {A = Strategy} (λ later. cond b (after_class p k) p later)
-    (cond b (after_class (λ later. p later) k) (λ later. p later))
-learn_apart true c p q k = refl
-learn_apart false c p q k = refl
+after_class : (m : Meaning) (k : ℕ) → k < length m.nulls → meaning_after m k ≡ after m k
+after_class m k h = cond-true (nat_lt k (length m.nulls)) (after m k) m (grind (arith, nat_tests))
 
-mix_by : (ws vs : List ℕ) (p q : Strategy) (k : ℕ) (s : Bool) → (s ≡ true → ws ≡ vs) →
-    ◌≡◌ {A = Strategy} (λ later. cond s (averages (learned ws p k later) (learned vs q k later)) (learned ws p k later))
-    (learned ws (λ later. cond s (averages (p later) (q later)) (p later)) k)
-mix_by ws vs p q k true h =
-    subst (λ (t : List ℕ). ◌≡◌ {A = Strategy} (λ later. averages (learned ws p k later) (learned t q k later)) (learned ws (λ later. averages (p later) (q later)) k)) (h refl)
-    (learn_alike (nat_lt k (length ws)) true p q k)
-mix_by ws vs p q k false h = learn_apart (nat_lt k (length ws)) true p q k
+pub after_none : (m : Meaning) (k : ℕ) → length m.nulls ≤ k → meaning_after m k ≡ m
+after_none m k h = cond-false (nat_lt k (length m.nulls)) (after m k) m (grind (arith, nat_tests))
 
-pub mix_learns : (ws vs : List ℕ) (p q : Strategy) (k : ℕ) →
-    ◌≡◌ {A = Strategy} (λ later. mixed ws vs (learned ws p k later) (learned vs q k later)) (learned ws (λ later. mixed ws vs (p later) (q later)) k)
-mix_learns ws vs p q k = mix_by ws vs p q k (same_table ws vs) (same_from ws vs)
+pub nulls_after : (m : Meaning) (k : ℕ) → (meaning_after m k).nulls ≡ m.nulls
+nulls_after m k = cond_both (nat_lt k (length m.nulls)) (after m k) m (λ x. x.nulls ≡ m.nulls) (λ h. refl) (λ h. refl)
 
-mix_learnt : (ws vs ws' vs' : List ℕ) (p q p' q' : Strategy) (k : ℕ) → ws' ≡ ws → vs' ≡ vs → p' ≡ learned ws p k → q' ≡ learned vs q k →
-    ◌≡◌ {A = Strategy} (mixture ws' vs' p' q') (learned ws (mixture ws vs p q) k)
-mix_learnt ws vs ws' vs' p q p' q' k a b c d = rw (a, b, c, d) (mix_learns ws vs p q k)
+-- where the tables differ, a mixture means what its first bettor means
+mixture_apart : (p q : Meaning) → same_table p.nulls q.nulls ≡ false → mixture p q ≡ p
+mixture_apart p q apart =
+    ap (λ (b : Bool). let m : Meaning = record { nulls = p.nulls; strategy = λ later. cond b (averages (p.strategy later) (q.strategy later)) (p.strategy later) } in m) apart
 
-learned_past : (ws : List ℕ) (p : Strategy) (k : ℕ) → length ws ≤ k → ◌≡◌ {A = Strategy} p (learned ws p k)
-learned_past ws p k past = sym (cond-false (nat_lt k (length ws)) (after_class p k) p (grind (arith, nat_tests)))
+-- a mixture of two bettors that have learned a class of the first's table has learned it
+pub mixture_after : (p q : Meaning) (k : ℕ) → k < length p.nulls → mixture (meaning_after p k) (meaning_after q k) ≡ meaning_after (mixture p q) k
+mixture_after p q k h =
+    ap (λ x. mixture x (meaning_after q k)) (after_class p k h)
+    ∙ cond_both (same_table p.nulls q.nulls) true false (λ b. mixture (after p k) (meaning_after q k) ≡ after (mixture p q) k)
+    (λ same. ap (mixture (after p k)) (after_class q k (omega (arith, h, ap length (same_from p.nulls q.nulls same)))))
+    (λ apart. mixture_apart (after p k) (meaning_after q k) (ap (same_table p.nulls) (nulls_after q k) ∙ apart) ∙ sym (ap (λ m. after m k) (mixture_apart p q apart)))
+    ∙ sym (after_class (mixture p q) k h)
 
 -- a mixture takes a step where both bettors take one at a class of the first's table, and nothing changes at any other number
-pub mix_steps : {M : Type 0} (nulls seconds : M → List ℕ) (p q : M → Strategy) (k : ℕ) (m n : M) →
-    (k < length (nulls m) → LearnStep nulls p k m n) → (k < length (nulls m) → LearnStep seconds q k m n) → (length (nulls m) ≤ k → n ≡ m) →
-    LearnStep nulls (λ x. mixture (nulls x) (seconds x) (p x) (q x)) k m n
-mix_steps {M} nulls seconds p q k m n first second same =
-    let play : M → Strategy = λ x. mixture (nulls x) (seconds x) (p x) (q x) in
+pub mixture_steps : (p q p' q' : Meaning) (k : ℕ) → (k < length p.nulls → p' ≡ meaning_after p k) → (k < length p.nulls → q' ≡ meaning_after q k) → (length p.nulls ≤ k → mixture p' q' ≡ mixture p q) →
+    mixture p' q' ≡ meaning_after (mixture p q) k
+mixture_steps p q p' q' k first second same =
     ⊎_elim
-    (λ below. let one = first below in let two = second below in (one.0, mix_learnt (nulls m) (seconds m) _ _ (p m) (q m) _ _ k one.0 two.0 one.1 two.1))
-    (λ past. (ap nulls (same past), ap play (same past) ∙ learned_past (nulls m) (play m) k past)) (cases_lt k (length (nulls m)))
+    (λ below. let one = first below in let two = second below in rw (one, two) (mixture_after p q k below))
+    (λ past. same past ∙ sym (after_none (mixture p q) k past))
+    (cases_lt k (length p.nulls))

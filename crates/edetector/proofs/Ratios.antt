@@ -1,6 +1,7 @@
 -- The numbers of a likelihood ratio fit their types.
 use Rattle.std.proofs.Common.{◌≡◌, ℕ, ◌*◌, ◌<◌, ◌≤◌, sym, ap, ◌∙◌, mul_assoc, mul_comm, mul-le-mul, mul-le-mul_left, mul-pos, arith}
 use native.Mathlib.Nat.{div-le_of_le-mul}
+use Rattle.edetector.specs.Tables.{most_factor}
 use Rattle.edetector.specs.Bettors.{ratio}
 
 module _ (whole v w a : ℕ) where
@@ -10,7 +11,7 @@ module _ (whole v w a : ℕ) where
   pub divisor_some : 1 ≤ v → 1 ≤ w → 0 < v * w
   divisor_some some least = mul-pos some least
 
-  pub ratio_small : whole ≤ 65536 → a ≤ v → 1 ≤ w → ratio whole v w a ≤ 268435456
+  pub ratio_small : whole ≤ 65536 → a ≤ v → 1 ≤ w → ratio whole v w a ≤ most_factor
   ratio_small light part least =
       let one : v * 1 ≤ v * w = mul-le-mul_left v least in
       let within : a ≤ v * w = omega arith in

@@ -1,17 +1,25 @@
 -- Two tables compared weight by weight.
 use Rattle.std.specs.Prelude.{◌≡◌, ℕ, ◌<◌, Bool, true, false, ◌&&◌, List, [], ◌∷◌, length, ◌≢◌, MatchBool, nat_eq, slice_index, refl}
 use Rattle.std.specs.List.{AllWithin, HoldsAt, range_with_len}
-use Rattle.std.proofs.Common.{sym, ap, subst, zero-add, ◌∙◌, arith}
+use Rattle.std.proofs.Common.{◌+◌, cond, sym, ap, ap₂, subst, zero-add, ◌∙◌, arith}
 use Rattle.std.proofs.lemmas.Bool.Decides.{nat_tests}
 use Rattle.std.proofs.lemmas.Bool.{false_from_ne_true}
 use Rattle.std.proofs.lemmas.List.{ext_get_or}
 use Rattle.std.proofs.lemmas.List.FromFn.{length-range_with_len, get_or-range_with_len}
-use Rattle.edetector.specs.Bettors.{same_table}
+use Rattle.edetector.specs.Bettors.{pairs_alike, same_table}
 use Rattle.edetector.specs.Mixing.{same_from}
 
+pairs_self : (xs : List ℕ) → pairs_alike xs xs ≡ length xs
+pairs_self [] = refl
+pairs_self (x ∷ xs) =
+    let e : nat_eq x x ≡ true = grind (arith, nat_tests) in
+    ap (λ b. cond b (1 + pairs_alike xs xs) 0) e ∙ omega (arith, pairs_self xs)
+
 same_self : (xs : List ℕ) → same_table xs xs ≡ true
-same_self [] = refl
-same_self (x ∷ xs) = let e : nat_eq x x ≡ true = grind (arith, nat_tests) in ap (λ b. b && same_table xs xs) e ∙ same_self xs
+same_self xs =
+    let long : nat_eq (length xs) (length xs) ≡ true = grind (arith, nat_tests) in
+    let all : nat_eq (pairs_alike xs xs) (length xs) ≡ true = (let e = pairs_self xs in grind (arith, nat_tests)) in
+    ap₂ (λ a b. a && b) long all
 
 pub apart_long : (xs ys : List ℕ) → (length xs ≢ length ys) → same_table xs ys ≡ false
 apart_long xs ys h = false_from_ne_true (same_table xs ys) (λ e. h (ap length (same_from xs ys e)))

@@ -8,7 +8,7 @@ use Rattle.std.proofs.lemmas.List.{get_or-take, get_or_past, take-replicate}
 use Rattle.edetector.specs.declared.adaptive.Adaptive.{Adaptive}
 use Rattle.edetector.specs.Tables.{total}
 use Rattle.edetector.specs.Weights.{null_weights}
-use Rattle.edetector.specs.Bettors.{Strategy, learned, LearnStep, ratio, Tally, most_tallied, no_tally, one_more, tally_class, adaptive, plus}
+use Rattle.edetector.specs.Bettors.{Strategy, Meaning, meaning_after, ratio, Tally, most_tallied, no_tally, one_more, tally_class, adaptive_strategy, plus}
 use Rattle.edetector.specs.Tallies.{tally_of}
 use Rattle.edetector.specs.Held.{null_long, is_null_table}
 use Rattle.edetector.specs.Adapting.{plus_long, total_set}
@@ -17,13 +17,16 @@ use Rattle.edetector.proofs.Lists.{getD_le_total}
 use Rattle.edetector.proofs.Reading.{weight_read}
 use Rattle.edetector.proofs.RatiosAt.{ratios_at, plus_at}
 
+abbrev means : List ℕ → Tally → Meaning
+means ws t = record { nulls = ws; strategy = adaptive_strategy ws t }
+
 -- one class learned is one step of the strategy
 step_by : (ws : List ℕ) (p q : Bool) (u t : Tally) →
-    ◌≡◌ {A = Strategy} (adaptive ws (cond (p && q) u t)) (cond p (λ later. adaptive ws (cond (p && q) u t) later) (adaptive ws t))
+    means ws (cond (p && q) u t) ≡ cond p (record { nulls = ws; strategy = λ later. adaptive_strategy ws (cond (p && q) u t) later }) (means ws t)
 step_by ws true q u t = refl
 step_by ws false q u t = refl
 
-pub adaptive_learns : (ws : List ℕ) (t : Tally) (k : ℕ) → ◌≡◌ {A = Strategy} (adaptive ws (tally_class ws t k)) (learned ws (adaptive ws t) k)
+pub adaptive_learns : (ws : List ℕ) (t : Tally) (k : ℕ) → means ws (tally_class ws t k) ≡ meaning_after (means ws t) k
 adaptive_learns ws t k = step_by ws (nat_lt k (length ws)) (nat_lt t.seen most_tallied) (one_more t k) t
 
 total_none : (n : ℕ) → total (replicate n 0) ≡ 0
@@ -58,15 +61,15 @@ none_tallied ws t k past = cond-false (nat_lt k (length ws) && nat_lt t.seen mos
 -- what the adaptive bettor promises of learning, as any bettor promises it
 module _ (b after : Adaptive) (k : ℕ) where
   pub tally_steps : after.null ≡ b.null → ◌≡◌ {A = Tally} (tally_of after) (tally_class (null_weights b.null) (tally_of b) k) →
-      LearnStep (λ (x : Adaptive). null_weights x.null) (λ (x : Adaptive). adaptive (null_weights x.null) (tally_of x)) k b after
-  tally_steps table tally = (ap null_weights table, ap₂ (λ n t. adaptive (null_weights n) t) table tally ∙ adaptive_learns (null_weights b.null) (tally_of b) k)
+      means (null_weights after.null) (tally_of after) ≡ meaning_after (means (null_weights b.null) (tally_of b)) k
+  tally_steps table tally = ap₂ (λ n t. means (null_weights n) t) table tally ∙ adaptive_learns (null_weights b.null) (tally_of b) k
 
   pub tally_past : (◌≡◌ {A = Tally} (tally_class (null_weights b.null) (tally_of b) k) (tally_of b) → after ≡ b) → length (null_weights b.null) ≤ k → after ≡ b
   tally_past same past = same (none_tallied (null_weights b.null) (tally_of b) k past)
 
 module _ (b : Adaptive) where
-  pub factor_past : (k : ℕ) → b.null.classes ≤ k → 0 ≡ slice_index (adaptive (null_weights b.null) (tally_of b) []) k
-  factor_past k h = sym (get_or_past (adaptive (null_weights b.null) (tally_of b) []) k 0 (omega (arith, tally_long b [], null_long b.null)))
+  pub factor_past : (k : ℕ) → b.null.classes ≤ k → 0 ≡ slice_index (adaptive_strategy (null_weights b.null) (tally_of b) []) k
+  factor_past k h = sym (get_or_past (adaptive_strategy (null_weights b.null) (tally_of b) []) k 0 (omega (arith, tally_long b [], null_long b.null)))
 
   -- the weight of a class, as the code reads it
   abbrev pub null_at : ℕ → ℕ
@@ -88,7 +91,7 @@ module _ (b : Adaptive) where
     pub count_part : slice_index_or b.counts k 0 ≤ b.seen
     count_part = omega (arith, count_is, getD_le_total (take b.null.classes b.counts) k, b.tallies)
 
-    pub factor_is : ratio b.null.whole (b.null.whole + b.seen) (null_at k) (null_at k + slice_index b.counts k) ≡ slice_index (adaptive (null_weights b.null) (tally_of b) []) k
+    pub factor_is : ratio b.null.whole (b.null.whole + b.seen) (null_at k) (null_at k + slice_index b.counts k) ≡ slice_index (adaptive_strategy (null_weights b.null) (tally_of b) []) k
     factor_is =
         let ws = null_weights b.null in
         let cs = take b.null.classes b.counts in

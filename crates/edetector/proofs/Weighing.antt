@@ -2,7 +2,7 @@
 use Rattle.std.specs.Prelude.{◌≡◌, ℕ, suc, ◌+◌, ◌*◌, ◌/◌, ◌<◌, ◌≤◌, List, [], ◌∷◌, length, slice_index, slice_index_or, refl}
 use Rattle.std.proofs.Common.{ap, ◌∙◌, mul_comm, add-mul, mul_left_comm, mul-le-mul_left, arith}
 use Rattle.std.proofs.Math.Nat.{mul-div-le}
-use Rattle.edetector.specs.Tables.{weigh, total, Fair}
+use Rattle.edetector.specs.Tables.{weigh, total, IsFair}
 use Rattle.edetector.specs.Sums.{weigh_mono, weigh_scale}
 
 pub weigh_same : (ws : List ℕ) (i : ℕ) (f g : ℕ → ℕ) → ((k : ℕ) → f k ≡ g k) → weigh ws i f ≡ weigh ws i g
@@ -20,7 +20,7 @@ weigh_const [] i c = omega arith
 weigh_const (w ∷ ws) i c = omega (arith, add-mul w (total ws) c, weigh_const ws (suc i) c)
 
 -- what a fair row does to the base b, over all classes
-pub fair_step : (ws row : List ℕ) (b : ℕ) → Fair ws row → weigh ws 0 (λ k. (b * slice_index row k) / 4096) ≤ total ws * b
+pub fair_step : (ws row : List ℕ) (b : ℕ) → IsFair ws row → weigh ws 0 (λ k. (b * slice_index row k) / 4096) ≤ total ws * b
 fair_step ws row b fair =
     let e : ℕ → ℕ = λ k. slice_index_or row k 0 in
     let m : ℕ → ℕ = λ k. (b * e k) / 4096 in

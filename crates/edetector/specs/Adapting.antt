@@ -4,8 +4,8 @@ use Rattle.std.proofs.Common.{sym, ap, ◌∙◌, mul-le-mul_left, mul-add, mul_
 use Rattle.std.proofs.Math.Nat.{mul-div-le, le_of_mul-le-mul_left}
 use Rattle.std.proofs.lemmas.Bool.Decides.{nat_tests}
 use Rattle.std.proofs.lemmas.Bool.{and_parts, cond_both}
-use Rattle.edetector.specs.Tables.{weigh, total, Fair}
-use Rattle.edetector.specs.Bettors.{ratios, Tally, most_tallied, one_more, tally_class, tally_all, plus, adaptive}
+use Rattle.edetector.specs.Tables.{weigh, total, IsFair}
+use Rattle.edetector.specs.Bettors.{ratios, Tally, most_tallied, one_more, tally_class, tally_all, plus, adaptive_strategy}
 
 pub ratios_long : (w v : ℕ) (ws alts : List ℕ) → length alts ≡ length ws → length (ratios w v ws alts) ≡ length ws
 ratios_long w v [] alts e = refl
@@ -27,7 +27,7 @@ ratios_sum w v (x ∷ ws) (a ∷ alts) e i f at =
     let whole : w * (a + total alts) ≡ w * a + w * total alts = mul-add w a (total alts) in
     omega (arith, low, turned, same, split, rest, most, whole)
 
-pub ratios_fair : (v : ℕ) (ws alts : List ℕ) → length alts ≡ length ws → 0 < v → total alts ≤ v → Fair ws (ratios (total ws) v ws alts)
+pub ratios_fair : (v : ℕ) (ws alts : List ℕ) → length alts ≡ length ws → 0 < v → total alts ≤ v → IsFair ws (ratios (total ws) v ws alts)
 ratios_fair v ws alts e pos h =
     let all = ratios_sum (total ws) v ws alts e 0 (λ k. slice_index (ratios (total ws) v ws alts) k) (λ j. ap (λ n. slice_index (ratios (total ws) v ws alts) n) (omega arith)) in
     let cap : total ws * total alts ≤ total ws * v = mul-le-mul_left (total ws) h in
@@ -68,13 +68,13 @@ tally_all_adds : (ws : List ℕ) (t : Tally) (later : List ℕ) → Adds ws t �
 tally_all_adds ws t [] ok = ok
 tally_all_adds ws t (k ∷ later) ok = tally_all_adds ws (tally_class ws t k) later (learn_adds ws t k ok)
 
-pub adaptive_long : (ws : List ℕ) (t : Tally) → Adds ws t → (later : List ℕ) → length (adaptive ws t later) ≡ length ws
+pub adaptive_long : (ws : List ℕ) (t : Tally) → Adds ws t → (later : List ℕ) → length (adaptive_strategy ws t later) ≡ length ws
 adaptive_long ws t ok later =
     let u = tally_all ws t later in
     let good = tally_all_adds ws t later ok in
     ratios_long (total ws) (total ws + u.seen) ws (plus ws u.counts) (plus_long ws u.counts good.0)
 
-pub adaptive_fair : (ws : List ℕ) (t : Tally) → 0 < total ws → Adds ws t → (later : List ℕ) → Fair ws (adaptive ws t later)
+pub adaptive_fair : (ws : List ℕ) (t : Tally) → 0 < total ws → Adds ws t → (later : List ℕ) → IsFair ws (adaptive_strategy ws t later)
 adaptive_fair ws t pos ok later =
     let u = tally_all ws t later in
     let good = tally_all_adds ws t later ok in

@@ -1,4 +1,5 @@
 pub mod Bettors
+pub mod Calls
 pub mod Examples
 pub mod Faults
 pub mod Ledger

@@ -1,91 +1,72 @@
 -- Plans of calls, their runs, and the bound on alarms over every sequence that a sound line could send.
-use Rattle.std.specs.Prelude.{ℕ, zero, suc, ◌+◌, ◌*◌, ◌≤◌, Bool, if◌then◌else◌, List, [], ◌∷◌, ◌++◌, map, length, Ok, Err, Result, slice_index}
+use Rattle.std.specs.Prelude.{ℕ, zero, suc, ◌+◌, ◌*◌, ◌≤◌, Bool, true, false, if◌then◌else◌, List, [], ◌∷◌, ◌++◌, map, length, replicate, Ok, Err, Result, slice_index, sum_by}
 use Rattle.std.specs.List.{flat_map, range_with_len}
-use Rattle.edetector.specs.declared.slip.OpenSlip.{OpenSlip}
 use Rattle.edetector.specs.declared.slip.ShownSlip.{ShownSlip}
 use Rattle.edetector.specs.declared.fault.Refused.{Refused}
 use Rattle.edetector.specs.States.{is_staked}
 use Rattle.edetector.specs.Bettors.{Strategy}
 use Rattle.edetector.specs.Slips.{shown_slip}
-use Rattle.edetector.specs.Ledger.{Terms, Standing, Outcome, fresh, fitting_slip, fitting, staking, settling, withdrawing, rearming, reading}
-
--- the calls that a plan may name: Withdraw is with the slip that is out, the last two with a slip that does not fit
-pub data Call : Type 0 where
-  Stake : Call
-  Withdraw : Call
-  Rearm : Call
-  Read : Call
-  SettleStray : ShownSlip → Call
-  WithdrawStray : OpenSlip → Call
+use Rattle.edetector.specs.Ledger.{Terms, Standing, Outcome, first_standing, next_slip, is_fitting, settle_outcome}
+use Rattle.edetector.specs.Calls.{Call, Stake, Settle, Withdraw, Rearm, Read, Answer, call_outcome, calls_outcome, rounds_in, alarms_in}
 
 -- the calls made before the next settlement, for every list of classes settled so far
 abbrev pub Plan : Type 0
 Plan = List ℕ → List Call
 
--- what one call leaves. A plan cannot settle the slip that fits, or it would choose the counts: such a call is not made
-abbrev pub called : Terms → Standing → Call → Standing
-called t s Stake = (staking t s).after
-called t s Withdraw = (withdrawing t s (fitting_slip t s)).after
-called t s Rearm = (rearming t s).after
-called t s Read = (reading t s).after
-called t s (SettleStray slip) = if fitting t s slip.tag slip.number then s else (settling t s slip).after
-called t s (WithdrawStray slip) = if fitting t s slip.tag slip.number then s else (withdrawing t s slip).after
+-- whether a call settles the slip that is out
+abbrev pub settles : Standing → Call → Bool
+settles s (Settle slip) = is_fitting s slip.stake
+settles s _ = false
 
-abbrev pub all_called : Terms → Standing → List Call → Standing
-all_called t s [] = s
-all_called t s (c ∷ cs) = all_called t (called t s c) cs
+-- a plan cannot settle the slip that is out, or it would choose the counts: its calls without those
+abbrev pub plan_calls : Terms → Standing → List Call → List Call
+plan_calls t s [] = []
+plan_calls t s (c ∷ cs) = if settles s c then plan_calls t s cs else c ∷ plan_calls t (call_outcome t s c).after cs
 
--- the fitting slip, shown the class k and settled
-abbrev pub next : Terms → Standing → ℕ → Outcome (Result Bool (Refused ShownSlip))
-next t m k = settling t m (shown_slip (fitting_slip t m) k)
+-- the slip that is out, shown the class k
+abbrev pub next_shown : Standing → ℕ → ShownSlip
+next_shown s k = shown_slip (next_slip s) k
 
--- an accepted settle answers whether it rang
-abbrev pub heard : Result Bool (Refused ShownSlip) → List Bool → List Bool
-heard (Ok b) bs = b ∷ bs
-heard (Err e) bs = bs
+-- the calls of a plan's run on a sequence of classes, behind those settled so far. If its calls leave a slip out, the slip
+-- is settled with the next class, and if not, or if the sequence is used up, the run ends
+abbrev pub run_calls : Terms → Plan → Standing → List ℕ → List ℕ → List Call
+run_calls t plan s past [] = plan_calls t s (plan past)
+run_calls t plan s past (k ∷ classes) =
+    let first = plan_calls t s (plan past) in
+    let m = (calls_outcome t s first).after in
+    if is_staked m.state then first ++ (Settle (next_shown m k) ∷ run_calls t plan (settle_outcome t m (next_shown m k)).after (past ++ (k ∷ [])) classes)
+    else first
 
--- the answers of the settles accepted in the run of a plan on a sequence of classes, in order. A run goes on only while a
--- slip is out
-abbrev pub run : Terms → Plan → Standing → List ℕ → List ℕ → List Bool
-run t p s past [] = []
-run t p s past (k ∷ ks) =
-    let m = all_called t s (p past) in
-    if is_staked m.state then heard (next t m k).answer (run t p (next t m k).after (past ++ (k ∷ [])) ks) else []
-
--- settled rounds, and the alarms among them
-abbrev pub rounds_in : List Bool → ℕ
-rounds_in [] = 0
-rounds_in (b ∷ bs) = 1 + rounds_in bs
-
-abbrev pub alarms_in : List Bool → ℕ
-alarms_in [] = 0
-alarms_in (b ∷ bs) = (if b then 1 else 0) + alarms_in bs
+-- a run is what its calls answer
+abbrev pub run : Terms → Plan → Standing → List ℕ → List Answer
+run t plan s classes = (calls_outcome t s (run_calls t plan s [] classes)).answer
 
 -- all sequences of h classes out of n
 abbrev pub sequences : ℕ → ℕ → List (List ℕ)
 sequences n zero = [] ∷ []
 sequences n (suc h) = flat_map (λ k. map (λ ks. k ∷ ks) (sequences n h)) (range_with_len 0 n)
 
--- a sequence's weight: the product of the null weights of its classes
-abbrev pub weight_of : List ℕ → List ℕ → ℕ
-weight_of ws [] = 1
-weight_of ws (k ∷ ks) = slice_index ws k * weight_of ws ks
+-- a sequence's weight: the product of its classes' weights, each in the table of its place
+abbrev pub weight_of : List (List ℕ) → List ℕ → ℕ
+weight_of (ws ∷ tables) (k ∷ classes) = slice_index ws k * weight_of tables classes
+weight_of _ _ = 1
 
--- the sum of f over a list
-abbrev pub sum_of : {X : Type 0} → (X → ℕ) → List X → ℕ
-sum_of f [] = 0
-sum_of f (x ∷ xs) = f x + sum_of f xs
+-- the sum of weight × f over all sequences of classes out of n, which have a table for each of their places
+abbrev pub weighted : ℕ → List (List ℕ) → (List ℕ → ℕ) → ℕ
+weighted n tables f = sum_by (λ classes. weight_of tables classes * f classes) (sequences n (length tables))
 
--- the sum, over all sequences of h classes, of weight × f
-abbrev pub weighted : List ℕ → ℕ → (List ℕ → ℕ) → ℕ
-weighted ws h f = sum_of (λ ks. weight_of ws ks * f ks) (sequences (length ws) h)
+-- the sum over all sequences of h classes that the null table weighs, of what f counts in the run of a monitor just made
+abbrev pub weighted_runs : (List Answer → ℕ) → Terms → ℕ → Strategy → Plan → ℕ → ℕ
+weighted_runs f t tag strategy plan h =
+    weighted (length t.nulls) (replicate h t.nulls) (λ classes. f (run t plan (first_standing t tag strategy) classes))
 
-abbrev pub weighted_alarms : Terms → Strategy → Plan → ℕ → ℕ
-weighted_alarms t play p h = weighted t.nulls h (λ ks. alarms_in (run t p (fresh play) [] ks))
+abbrev pub weighted_alarms : Terms → ℕ → Strategy → Plan → ℕ → ℕ
+weighted_alarms = weighted_runs alarms_in
 
-abbrev pub weighted_rounds : Terms → Strategy → Plan → ℕ → ℕ
-weighted_rounds t play p h = weighted t.nulls h (λ ks. rounds_in (run t p (fresh play) [] ks))
+abbrev pub weighted_rounds : Terms → ℕ → Strategy → Plan → ℕ → ℕ
+weighted_rounds = weighted_runs rounds_in
 
 -- the bound, of a monitor just made: for every horizon and plan, threshold × weighted alarms ≤ weighted settled rounds
-abbrev pub Bound : Terms → Strategy → Type 0
-Bound t play = (h : ℕ) (p : Plan) → t.threshold * weighted_alarms t play p h ≤ weighted_rounds t play p h
+abbrev pub Bound : Terms → ℕ → Strategy → Type 0
+Bound t tag strategy =
+    (h : ℕ) (plan : Plan) → t.threshold * weighted_alarms t tag strategy plan h ≤ weighted_rounds t tag strategy plan h

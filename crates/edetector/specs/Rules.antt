@@ -1,22 +1,30 @@
--- The base of a round under the named restart rules.
-use Rattle.std.specs.Prelude.{ℕ, ◌+◌, ◌^◌, max, if◌then◌else◌, nat_lt}
+-- What a restart rule means: the base of a round for every wealth.
+use Rattle.std.specs.Prelude.{ℕ, ◌≤◌, ◌+◌, ◌^◌, max, if◌then◌else◌, nat_lt}
 
 -- one bet, in parts
 abbrev pub bet : ℕ
 bet = 1048576
 
+-- what every rule keeps: at most one bet is begun anew
+pub record IsRestartRule (base : ℕ → ℕ) : Type 0 where
+  pub at_most_a_bet : (m : ℕ) → base m ≤ m + bet
+
 -- the most parts of a wealth
 abbrev pub most_parts : ℕ
 most_parts = 2 ^ 49
 
--- above 2^32 parts no bet is begun
-abbrev pub capped : ℕ → ℕ → ℕ
-capped m begun = if nat_lt (2 ^ 32) m then m else begun
+-- above so many parts no bet is begun
+abbrev pub begin_limit : ℕ
+begin_limit = 2 ^ 32
+
+-- the base of a wealth m, with what is begun up to the limit
+abbrev pub base_for : ℕ → ℕ → ℕ
+base_for m begun = if nat_lt begin_limit m then m else begun
 
 -- the Shiryaev–Roberts rule adds a bet
 abbrev pub shiryaev_roberts : ℕ → ℕ
-shiryaev_roberts m = capped m (m + bet)
+shiryaev_roberts m = base_for m (m + bet)
 
 -- Page's rule starts from at least a bet
 abbrev pub page : ℕ → ℕ
-page m = capped m (max m bet)
+page m = base_for m (max m bet)

@@ -13,16 +13,16 @@ is_staked Armed = false
 is_staked Staked = true
 is_staked Rung = false
 
--- the ledger is at the cap or above exactly if the monitor is rung
-abbrev pub level : State → ℕ → ℕ → Bool
-level Armed cap ledger = nat_lt ledger cap
-level Staked cap ledger = nat_lt ledger cap
-level Rung cap ledger = nat_le cap ledger
+-- the ledger is at the limit or above exactly if the monitor is rung
+abbrev pub agrees_with_ledger : State → ℕ → ℕ → Bool
+agrees_with_ledger Armed limit ledger = nat_lt ledger limit
+agrees_with_ledger Staked limit ledger = nat_lt ledger limit
+agrees_with_ledger Rung limit ledger = nat_le limit ledger
 
 -- after so many settled rounds a stake is refused
 abbrev pub most_rounds : ℕ
 most_rounds = 1000000
 
--- a staked monitor has a round left
-abbrev pub lasts : State → ℕ → Bool
-lasts state rounds = if is_staked state then nat_lt rounds most_rounds else nat_le rounds most_rounds
+-- no more rounds are settled, and a staked monitor has one left
+abbrev pub has_rounds_left : State → ℕ → Bool
+has_rounds_left state rounds = if is_staked state then nat_lt rounds most_rounds else nat_le rounds most_rounds

@@ -43,9 +43,13 @@ weigh [] i f = 0
 weigh (w ∷ ws) i f = w * f i + weigh ws (suc i) f
 
 -- the factor that leaves a bet as it is: factors are in parts of it
-abbrev pub par : ℕ
-par = 4096
+abbrev pub unit_factor : ℕ
+unit_factor = 4096
 
--- a row is fair against a table: the sum of all w_k × e_k is at most par × the total weight
-abbrev pub Fair : List ℕ → List ℕ → Type 0
-Fair ws row = weigh ws 0 (λ k. slice_index row k) ≤ par * total ws
+-- no factor of a fair row is larger, whatever the table: the total of the weights is at most 65,536, and each is at least 1
+abbrev pub most_factor : ℕ
+most_factor = unit_factor * 65536
+
+-- a row is fair against a table: the sum of all w_k × e_k is at most 4,096 × the total weight
+abbrev pub IsFair : List ℕ → List ℕ → Type 0
+IsFair ws row = weigh ws 0 (λ k. slice_index row k) ≤ unit_factor * total ws

@@ -3,9 +3,9 @@ use Rattle.std.specs.Prelude.{◌≡◌, ℕ, ◌<◌, List, length, take}
 use Rattle.std.proofs.Common.{sym, ◌∙◌, arith}
 use Rattle.std.proofs.lemmas.List.{length-take-le}
 use Rattle.edetector.specs.declared.adaptive.Adaptive.{Adaptive}
-use Rattle.edetector.specs.Tables.{total, Fair}
+use Rattle.edetector.specs.Tables.{total, IsFair}
 use Rattle.edetector.specs.Weights.{null_weights}
-use Rattle.edetector.specs.Bettors.{adaptive}
+use Rattle.edetector.specs.Bettors.{adaptive_strategy}
 use Rattle.edetector.specs.Tallies.{tally_of}
 use Rattle.edetector.specs.Held.{null_long}
 use Rattle.edetector.specs.Adapting.{Adds, adaptive_long, adaptive_fair}
@@ -20,8 +20,8 @@ module _ (b : Adaptive) where
   positive : 0 < total (null_weights b.null)
   positive = omega (arith, b.null.sums, b.null.heavy)
 
-  pub tally_long : (later : List ℕ) → length (adaptive (null_weights b.null) (tally_of b) later) ≡ length (null_weights b.null)
+  pub tally_long : (later : List ℕ) → length (adaptive_strategy (null_weights b.null) (tally_of b) later) ≡ length (null_weights b.null)
   tally_long later = adaptive_long (null_weights b.null) (tally_of b) adds later
 
-  pub tally_fair : (later : List ℕ) → Fair (null_weights b.null) (adaptive (null_weights b.null) (tally_of b) later)
+  pub tally_fair : (later : List ℕ) → IsFair (null_weights b.null) (adaptive_strategy (null_weights b.null) (tally_of b) later)
   tally_fair later = adaptive_fair (null_weights b.null) (tally_of b) positive adds later

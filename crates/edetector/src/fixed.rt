@@ -1,7 +1,7 @@
 // The fixed bettor: it plays the likelihood ratios of one alternative, whatever it learns.
 ghost use Rattle.std.specs.Prelude.{◌≡◌, []};
-ghost use Rattle.edetector.specs.Units.{IsRow};
-ghost use Rattle.edetector.specs.Bettors.{fixed as plays};
+ghost use Rattle.edetector.specs.Units.{factors_in, padded};
+ghost use Rattle.edetector.specs.Bettors.{fixed_strategy};
 ghost use Rattle.edetector.specs.Weights.{null_weights, alternative_weights};
 
 use super::table::{AlternativeTable, NullTable};
@@ -15,6 +15,6 @@ pub struct Fixed {
     pub(super) null: NullTable,
     pub(super) alternative: AlternativeTable,
     pub(super) row: Row,
-    ghost level: { alternative.classes ≡ null.classes },
-    ghost played: { IsRow row (plays (null_weights null) (alternative_weights alternative) []) },
+    ghost same_classes: { alternative.classes ≡ null.classes },
+    ghost played: { factors_in row ≡ padded (fixed_strategy (null_weights null) (alternative_weights alternative) []) },
 }

@@ -1,24 +1,39 @@
 // A mixture of any two bettors, which bets half on each.
-ghost use Rattle.std.specs.Prelude.{◌≡◌, ℕ, ◌+◌, ◌/◌, ◌<◌, ◌≤◌, if◌then◌else◌, length, Ok, Err, slice_index};
+ghost use Rattle.std.specs.Prelude.{◌≡◌, ◌+◌, ◌/◌, ◌<◌, ◌≤◌, if◌then◌else◌, length, Ok, Err};
 ghost use Rattle.edetector.specs.declared.value.ValueFault.TheVariants.{NullTables};
 ghost use Rattle.edetector.specs.Units.{factors_in};
-ghost use Rattle.edetector.specs.Bettors.{LearnStep, mixture as plays, same_table};
-ghost use Rattle.edetector.specs.Mixing.{mixed_long, mixed_fair};
+ghost use Rattle.edetector.specs.Bettors.{meaning_after, averages, mixture, same_table};
+ghost use Rattle.edetector.specs.Mixing.{mixture_law};
 
 use super::bettor::Bettor;
 use super::units::{Factor, Row, Weight};
 use super::value::ValueFault;
 use std::array;
+use std::marker::Model;
 
+/// The first bettor's table is the mixture's. Where the second's differs, the mixture plays the first's row alone.
 #[derive(Drop)]
-pub struct Mixture<F, S> {
+pub struct Mixture<F: Bettor, S: Bettor> {
     first: F,
     second: S,
+    // whether the two null tables are the same
+    same: bool,
+}
+
+impl<F: Bettor, S: Bettor> Model for Mixture<F, S> {
+    ghost use Rattle.std.specs.Prelude.{◌≡◌};
+    ghost use Rattle.edetector.specs.Bettors.{Pair, same_table};
+
+    ghost Value = { Pair F S };
+
+    ghost view = { λ m. record { first = m.first; second = m.second } };
+
+    ghost invariant = { λ m. m.same ≡ same_table (F.meaning m.first).nulls (S.meaning m.second).nulls };
 }
 
 // Whether two bettors have the same null table.
-fn same_tables<F: Bettor, S: Bettor>(first: &F, second: &S) -> bool
-    ensures { result ≡ same_table (F.Bettor.nulls first.now) (S.Bettor.nulls second.now) }
+fn have_same_table<F: Bettor, S: Bettor>(first: &F, second: &S) -> bool
+    ensures { result ≡ same_table (F.meaning first.now).nulls (S.meaning second.now).nulls }
 {
     let n = first.classes();
     if n != second.classes() {
@@ -35,23 +50,31 @@ fn average(f: Factor, g: Factor) -> Factor
 
 // Half the sum of two rows.
 fn averaged(f: Row, g: Row) -> Row
-    ensures { (k : ℕ) → slice_index (factors_in result) k ≡ (slice_index (factors_in f) k + slice_index (factors_in g) k) / 2 }
+    ensures { factors_in result ≡ averages (factors_in f) (factors_in g) }
 {
     array::from_fn(|k| average(f[k], g[k]))
 }
 
 impl<F: Bettor, S: Bettor> Mixture<F, S> {
+    /// The two null tables are compared here, once.
     pub fn new(first: F, second: S) -> Mixture<F, S>
         ensures { result ≡ record { first = first; second = second } }
     {
-        Mixture { first, second }
+        let same = have_same_table(&first, &second);
+        Mixture {
+            first,
+            second,
+            same,
+        }
     }
 
-    // Refused where the two null tables differ; the mixture then plays the first's row alone.
+    /// Refused where the two null tables differ.
     pub fn check(&self) -> Result<(), ValueFault>
-        ensures { result ≡ (if same_table (F.Bettor.nulls self.now.first) (S.Bettor.nulls self.now.second) then Ok tt else Err NullTables) }
+        ensures {
+            result ≡ (if same_table (F.meaning self.now.first).nulls (S.meaning self.now.second).nulls
+            then Ok tt else Err NullTables) }
     {
-        if same_tables(&self.first, &self.second) {
+        if self.same {
             Ok(())
         } else {
             Err(ValueFault::NullTables)
@@ -60,17 +83,9 @@ impl<F: Bettor, S: Bettor> Mixture<F, S> {
 }
 
 impl<F: Bettor, S: Bettor> Bettor for Mixture<F, S> {
-    ghost nulls = { λ m. F.Bettor.nulls m.first };
+    ghost meaning = { λ m. mixture (F.meaning m.first) (S.meaning m.second) };
 
-    ghost strategy = { λ m. plays (F.Bettor.nulls m.first) (S.Bettor.nulls m.second) (F.Bettor.strategy m.first) (S.Bettor.strategy m.second) };
-
-    ghost table = { λ b. F.Bettor.table b.first };
-
-    ghost whole = { λ b later. mixed_long _ _ _ _ (F.Bettor.whole b.first later) (S.Bettor.whole b.second later) };
-
-    ghost fair = { λ b later.
-        mixed_fair _ _ _ _ (F.Bettor.whole b.first later) (S.Bettor.whole b.second later)
-        (F.Bettor.fair b.first later) (S.Bettor.fair b.second later) };
+    ghost law = { λ m. mixture_law (F.meaning m.first) (S.meaning m.second) (F.law m.first) (S.law m.second) };
 
     fn classes(&self) -> usize {
         self.first.classes()
@@ -82,7 +97,7 @@ impl<F: Bettor, S: Bettor> Bettor for Mixture<F, S> {
 
     fn factor(&self, class: usize) -> Factor {
         let f = self.first.factor(class);
-        if !same_tables(&self.first, &self.second) {
+        if !self.same {
             return f;
         }
         average(f, self.second.factor(class))
@@ -90,20 +105,23 @@ impl<F: Bettor, S: Bettor> Bettor for Mixture<F, S> {
 
     // Both learn every class of the mixture's own table, also where the two tables differ.
     fn learn(&mut self, class: usize)
-        ensures first { class < length (F.Bettor.nulls self.old.first) → LearnStep F.Bettor.nulls F.Bettor.strategy class self.old.first self.new.first }
-        ensures second { class < length (F.Bettor.nulls self.old.first) → LearnStep S.Bettor.nulls S.Bettor.strategy class self.old.second self.new.second }
-        ensures same { length (F.Bettor.nulls self.old.first) ≤ class → self.new ≡ self.old }
+        ensures first {
+            class < length (F.meaning self.old.first).nulls →
+            F.meaning self.new.first ≡ meaning_after (F.meaning self.old.first) class }
+        ensures second {
+            class < length (F.meaning self.old.first).nulls →
+            S.meaning self.new.second ≡ meaning_after (S.meaning self.old.second) class }
+        ensures same { length (F.meaning self.old.first).nulls ≤ class → self.new ≡ self.old }
     {
-        if class < self.classes() {
+        if class < self.first.classes() {
             self.first.learn(class);
             self.second.learn(class);
         }
     }
 
-    // The tables are compared once for the whole row.
     fn row(&self) -> Row {
         let row = self.first.row();
-        if same_tables(&self.first, &self.second) {
+        if self.same {
             averaged(row, self.second.row())
         } else {
             row

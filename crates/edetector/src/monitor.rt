@@ -1,7 +1,7 @@
 // What a monitor holds.
 ghost use Rattle.std.specs.Prelude.{◌≡◌, ◌*◌, ◌≤◌, true};
 ghost use Rattle.edetector.specs.Rules.{bet};
-ghost use Rattle.edetector.specs.States.{level, lasts};
+ghost use Rattle.edetector.specs.States.{agrees_with_ledger, has_rounds_left};
 ghost use Rattle.edetector.specs.Phases.{state_of};
 
 use super::state::State;
@@ -23,9 +23,9 @@ pub struct Monitor<B, R> {
     alarms: u32,
     ghost least: { 1 ≤ threshold },
     ghost most: { threshold ≤ 4096 },
-    ghost stands: { level (state_of phase) (threshold * bet) ledger.parts ≡ true },
+    ghost rung_by_ledger: { agrees_with_ledger (state_of phase) (threshold * bet) ledger.parts ≡ true },
     ghost fewer: { alarms ≤ rounds },
-    ghost lasting: { lasts (state_of phase) rounds ≡ true },
+    ghost rounds_left: { has_rounds_left (state_of phase) rounds ≡ true },
 }
 
 // What a monitor tells of itself.

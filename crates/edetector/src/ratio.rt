@@ -4,15 +4,15 @@ ghost use Rattle.edetector.specs.Bettors.{ratio};
 
 use super::units::{Factor, Weight};
 
-// The alternative's share of a class against the null table's: `a` out of `v` to `w` out of `whole`, the remainder
+// The alternative's share of a class against the null table's: `a` out of `v` to `w` out of `total`, the remainder
 // dropped.
-pub(super) fn likelihood_ratio(whole: u32, v: u32, w: Weight, a: Weight) -> Factor
-    requires light { (whole ≤ 65536) × ((v ≤ 1065536) × (w.0 ≤ 65536)) }
+pub(super) fn likelihood_ratio(total: u32, v: u32, w: Weight, a: Weight) -> Factor
+    requires within { (total ≤ 65536) × ((v ≤ 1065536) × (w.0 ≤ 65536)) }
     requires part { a.0 ≤ v }
     requires some { (1 ≤ v) × (1 ≤ w.0) }
-    ensures { result.0 ≡ ratio whole v w.0 a.0 }
+    ensures { result.0 ≡ ratio total v w.0 a.0 }
 {
-    let above = 4096 * u64::from(a.0) * u64::from(whole);
+    let above = 4096 * u64::from(a.0) * u64::from(total);
     let below = u64::from(v) * u64::from(w.0);
     Factor((above / below) as u32)
 }

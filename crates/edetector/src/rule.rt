@@ -1,6 +1,6 @@
 // A restart rule: with what base the next round is bet, for every wealth.
-ghost use Rattle.std.specs.Prelude.{◌≡◌, ℕ, ◌+◌, ◌≤◌};
-ghost use Rattle.edetector.specs.Rules.{bet};
+ghost use Rattle.std.specs.Prelude.{◌≡◌, ℕ};
+ghost use Rattle.edetector.specs.Rules.{IsRestartRule};
 
 use super::units::Base;
 use super::wealth::Wealth;
@@ -11,6 +11,5 @@ pub trait RestartRule {
     fn restart(&self, wealth: Wealth) -> Base
         ensures { result.0 ≡ base self.now wealth.parts };
 
-    // at most one bet is begun anew
-    ghost modest: { (r : Self) (m : ℕ) → base r m ≤ m + bet };
+    ghost law: { (r : Self) → IsRestartRule (base r) };
 }

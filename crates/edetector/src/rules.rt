@@ -1,6 +1,6 @@
 // The two named restart rules.
 ghost use Rattle.std.specs.Prelude.{◌≡◌};
-ghost use Rattle.edetector.specs.Rules.{capped, shiryaev_roberts, page};
+ghost use Rattle.edetector.specs.Rules.{base_for, shiryaev_roberts, page};
 ghost use Rattle.std.proofs.Common.{rules};
 
 use super::rule::RestartRule;
@@ -8,12 +8,12 @@ use super::units::Base;
 use super::wealth::{BET, Wealth};
 
 // Above so many parts no bet is begun.
-const CAP: u64 = 4294967296;
+const BEGIN_LIMIT: u64 = 4294967296;
 
-fn capped(wealth: Wealth, begun: u64) -> Base
-    ensures { result.0 ≡ capped wealth.parts begun }
+fn base_for(wealth: Wealth, begun: u64) -> Base
+    ensures { result.0 ≡ base_for wealth.parts begun }
 {
-    if wealth.parts > CAP {
+    if wealth.parts > BEGIN_LIMIT {
         Base(wealth.parts)
     } else {
         Base(begun)
@@ -27,10 +27,10 @@ pub struct ShiryaevRoberts;
 impl RestartRule for ShiryaevRoberts {
     ghost base = { λ r. shiryaev_roberts };
 
-    ghost modest = { Prim.search rules };
+    ghost law = { λ r. record { at_most_a_bet = Prim.search rules } };
 
     fn restart(&self, wealth: Wealth) -> Base {
-        capped(wealth, wealth.parts + BET)
+        base_for(wealth, wealth.parts + BET)
     }
 }
 
@@ -41,9 +41,9 @@ pub struct Page;
 impl RestartRule for Page {
     ghost base = { λ r. page };
 
-    ghost modest = { Prim.search rules };
+    ghost law = { λ r. record { at_most_a_bet = Prim.search rules } };
 
     fn restart(&self, wealth: Wealth) -> Base {
-        capped(wealth, wealth.parts.max(BET))
+        base_for(wealth, wealth.parts.max(BET))
     }
 }

@@ -9,10 +9,9 @@ pub struct OpenSlip {
     pub(super) number: u32,
 }
 
-// A stake with the count that was shown to it. Around an open slip, its tag and number would be no plainer to name.
+// A stake with the count that was shown to it.
 pub struct ShownSlip {
-    pub(super) tag: u32,
-    pub(super) number: u32,
+    pub(super) stake: OpenSlip,
     pub(super) count: u32,
 }
 
@@ -20,7 +19,6 @@ impl OpenSlip {
     pub fn show(self, count: u32) -> ShownSlip
         ensures { result ≡ shown_slip self count }
     {
-        let OpenSlip { tag, number } = self;
-        ShownSlip { tag, number, count }
+        ShownSlip { stake: self, count }
     }
 }

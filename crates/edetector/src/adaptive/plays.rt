@@ -1,6 +1,6 @@
 // How the adaptive bettor is made, what it plays and how it learns.
 ghost use Rattle.std.specs.Prelude.{◌≡◌, length};
-ghost use Rattle.edetector.specs.Bettors.{adaptive as plays, no_tally, tally_class};
+ghost use Rattle.edetector.specs.Bettors.{adaptive_strategy, no_tally, tally_class};
 ghost use Rattle.edetector.specs.Tallies.{tally_of};
 ghost use Rattle.edetector.specs.Weights.{null_weights};
 ghost use Rattle.edetector.specs.Held.{null_unbroken};
@@ -30,17 +30,13 @@ impl Adaptive {
 }
 
 impl Bettor for Adaptive {
-    ghost nulls = { λ b. null_weights b.null };
+    ghost meaning = { λ b. record { nulls = null_weights b.null; strategy = adaptive_strategy (null_weights b.null) (tally_of b) } };
 
-    ghost strategy = { λ b. plays (null_weights b.null) (tally_of b) };
+    ghost law = { λ b. record {
+        table = null_unbroken b.null;
+        factors = λ later. tally_long b later;
+        fair = λ later. tally_fair b later } };
 
-    ghost table = { λ b. null_unbroken b.null };
-
-    ghost whole = { λ b later. tally_long b later };
-
-    ghost fair = { λ b later. tally_fair b later };
-
-    // As a default, both would ask the trait for the table, which not every bettor has: no plainer than these two lines.
     fn classes(&self) -> usize {
         self.null.classes()
     }

@@ -1,7 +1,7 @@
 // How the fixed bettor is made, and what it plays.
 ghost use Rattle.std.specs.Prelude.{◌≡◌, [], slice_index};
-ghost use Rattle.edetector.specs.Units.{IsRow};
-ghost use Rattle.edetector.specs.Bettors.{fixed as plays};
+ghost use Rattle.edetector.specs.Units.{factors_in, padded};
+ghost use Rattle.edetector.specs.Bettors.{fixed_strategy};
 ghost use Rattle.edetector.specs.Pairs.{Paired};
 ghost use Rattle.edetector.specs.Weights.{null_weights, alternative_weights};
 ghost use Rattle.edetector.specs.Held.{null_unbroken};
@@ -18,7 +18,7 @@ use std::array;
 // The likelihood ratio of a class, or 0 past the last.
 fn ratio_at(null: &NullTable, alternative: &AlternativeTable, class: usize) -> Factor
     requires { alternative.now.classes ≡ null.now.classes }
-    ensures { result.0 ≡ slice_index (plays (null_weights null.now) (alternative_weights alternative.now) []) class }
+    ensures { result.0 ≡ slice_index (fixed_strategy (null_weights null.now) (alternative_weights alternative.now) []) class }
 {
     if class >= null.classes {
         return Factor(0);
@@ -31,7 +31,7 @@ fn ratio_at(null: &NullTable, alternative: &AlternativeTable, class: usize) -> F
 // The likelihood ratios of all classes, with zeros behind them.
 fn ratios_of(null: &NullTable, alternative: &AlternativeTable) -> Row
     requires { alternative.now.classes ≡ null.now.classes }
-    ensures { IsRow result (plays (null_weights null.now) (alternative_weights alternative.now) []) }
+    ensures { factors_in result ≡ padded (fixed_strategy (null_weights null.now) (alternative_weights alternative.now) []) }
 {
     array::from_fn(|k| ratio_at(null, alternative, k))
 }
@@ -53,17 +53,13 @@ impl Fixed {
 }
 
 impl Bettor for Fixed {
-    ghost nulls = { λ b. null_weights b.null };
+    ghost meaning = { λ b. record { nulls = null_weights b.null; strategy = fixed_strategy (null_weights b.null) (alternative_weights b.alternative) } };
 
-    ghost strategy = { λ b. plays (null_weights b.null) (alternative_weights b.alternative) };
+    ghost law = { λ b. record {
+        table = null_unbroken b.null;
+        factors = λ later. fixed_long b.null b.alternative b.same_classes;
+        fair = λ later. fixed_fair b.null b.alternative b.same_classes } };
 
-    ghost table = { λ b. null_unbroken b.null };
-
-    ghost whole = { λ b later. fixed_long b.null b.alternative b.level };
-
-    ghost fair = { λ b later. fixed_fair b.null b.alternative b.level };
-
-    // As a default, both would ask the trait for the table, which not every bettor has: no plainer than these two lines.
     fn classes(&self) -> usize {
         self.null.classes()
     }

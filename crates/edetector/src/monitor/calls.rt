@@ -1,10 +1,12 @@
 // How a monitor is made, and its five calls. What each answers, leaves alone and does when it refuses is its own promise.
 ghost use Rattle.std.specs.Prelude.{◌≡◌, ◌*◌, ◌/◌, ◌≤◌, ◌↔◌, IsTrue, OnErr, IsSome, IfSome};
 ghost use Rattle.edetector.specs.declared.monitor.phase.Phase.TheVariants.{Staked};
-ghost use Rattle.edetector.specs.Ledger.{outcome, fitting, staking, settling, withdrawing, rearming, reading};
+ghost use Rattle.edetector.specs.Ledger.{outcome, is_fitting, stake_outcome, settle_outcome, withdraw_outcome, rearm_outcome, read_outcome};
 ghost use Rattle.edetector.specs.Plans.{Bound};
 ghost use Rattle.edetector.specs.Rules.{bet};
-ghost use Rattle.edetector.specs.View.{view, terms, terms_of, told_by, Made};
+ghost use Rattle.edetector.specs.Tables.{unit_factor, most_factor};
+ghost use Rattle.std.specs.Result.{result_map_both};
+ghost use Rattle.edetector.specs.View.{view, terms, terms_of, bettor_of, rule_of, told_by, seen, new_monitor, AfterCalls};
 
 use super::super::bettor::Bettor;
 use super::super::fault::{MonitorFault, Refused, Unmade};
@@ -21,10 +23,10 @@ use super::{Monitor, Reading};
 const MOST_ROUNDS: u32 = 1000000;
 
 // The ledger's step, the only place where a wealth meets a factor.
-fn grown(base: Base, factor: Factor) -> Wealth
+fn ledger_after(base: Base, factor: Factor) -> Wealth
     requires low { base.0 ≤ 4097 * bet }
-    requires small { factor.0 ≤ 268435456 }
-    ensures { result.parts ≡ (base.0 * factor.0) / 4096 }
+    requires small { factor.0 ≤ most_factor }
+    ensures { result.parts ≡ (base.0 * factor.0) / unit_factor }
 {
     Wealth {
         parts: base.0 * u64::from(factor.0) / 4096,
@@ -34,8 +36,12 @@ fn grown(base: Base, factor: Factor) -> Wealth
 impl<B: Bettor, R: RestartRule> Monitor<B, R> {
     // Whatever the bettor, the rule and the plan of calls, the alarms are bounded.
     pub fn new(bettor: B, rule: R, threshold: u32, tag: u32) -> Result<Monitor<B, R>, Unmade<B, R>>
-        ensures made { Made B.nulls B.strategy R.base bettor rule threshold tag result }
-        ensures bound { Bound (terms (B.nulls bettor) (R.base rule) threshold tag) (B.strategy bettor) }
+        ensures made {
+            result_map_both (seen B.meaning R.base) (λ e. e) result
+            ≡ new_monitor B.meaning R.base bettor rule threshold tag }
+        ensures calls { AfterCalls B.meaning R.base }
+        ensures bound {
+            let m = B.meaning bettor in Bound (terms m.nulls (R.base rule) threshold) tag m.strategy }
     {
         if !(1..=4096).contains(&threshold) {
             return Err(Unmade {
@@ -58,9 +64,11 @@ impl<B: Bettor, R: RestartRule> Monitor<B, R> {
 
     // Copies the row now, before any count is seen.
     pub fn stake(&mut self) -> Result<OpenSlip, MonitorFault>
-        ensures does { outcome result (view B.nulls B.strategy self.new) ≡ staking (terms_of B.nulls R.base self.old) (view B.nulls B.strategy self.old) }
-        ensures same { terms_of B.nulls R.base self.new ≡ terms_of B.nulls R.base self.old }
-        ensures kept { (self.new.bettor ≡ self.old.bettor) × (self.new.rule ≡ self.old.rule) }
+        ensures does {
+            outcome result (view B.meaning self.new)
+            ≡ stake_outcome (terms_of B.meaning R.base self.old) (view B.meaning self.old) }
+        ensures same { terms_of B.meaning R.base self.new ≡ terms_of B.meaning R.base self.old }
+        ensures kept { (bettor_of self.new ≡ bettor_of self.old) × (rule_of self.new ≡ rule_of self.old) }
         ensures refused { OnErr result (self.new ≡ self.old) }
     {
         let Phase::Armed = self.phase else {
@@ -78,25 +86,24 @@ impl<B: Bettor, R: RestartRule> Monitor<B, R> {
 
     // The staked factor is read before the bettor learns the class.
     pub fn settle(&mut self, slip: ShownSlip) -> Result<bool, Refused<ShownSlip>>
-        ensures does { outcome result (view B.nulls B.strategy self.new) ≡ settling (terms_of B.nulls R.base self.old) (view B.nulls B.strategy self.old) slip }
-        ensures same { terms_of B.nulls R.base self.new ≡ terms_of B.nulls R.base self.old }
-        ensures kept { self.new.rule ≡ self.old.rule }
+        ensures does {
+            outcome result (view B.meaning self.new)
+            ≡ settle_outcome (terms_of B.meaning R.base self.old) (view B.meaning self.old) slip }
+        ensures same { terms_of B.meaning R.base self.new ≡ terms_of B.meaning R.base self.old }
+        ensures kept { rule_of self.new ≡ rule_of self.old }
         ensures refused { OnErr result (self.new ≡ self.old) }
     {
         let k = class_of(self.bettor.classes(), slip.count);
-        let Some(stake) = self.stake_for(slip.tag, slip.number) else {
+        let Some(stake) = self.stake_for(&slip.stake) else {
             return Err(Refused {
                 fault: MonitorFault::Misfit,
                 slip,
             });
         };
         let factor = stake.factor(k);
-        let ShownSlip {
-            tag: _,
-            number: _,
-            count: _,
-        } = slip;
-        self.ledger = grown(self.rule.restart(self.ledger), factor);
+        let ShownSlip { stake: spent, count: _ } = slip;
+        let OpenSlip { tag: _, number: _ } = spent;
+        self.ledger = ledger_after(self.rule.restart(self.ledger), factor);
         self.bettor.learn(k);
         self.rounds += 1;
         let rang = self.ledger.parts >= u64::from(self.threshold) * BET;
@@ -110,12 +117,14 @@ impl<B: Bettor, R: RestartRule> Monitor<B, R> {
     }
 
     pub fn withdraw(&mut self, slip: OpenSlip) -> Result<(), Refused<OpenSlip>>
-        ensures does { outcome result (view B.nulls B.strategy self.new) ≡ withdrawing (terms_of B.nulls R.base self.old) (view B.nulls B.strategy self.old) slip }
-        ensures same { terms_of B.nulls R.base self.new ≡ terms_of B.nulls R.base self.old }
-        ensures kept { (self.new.bettor ≡ self.old.bettor) × (self.new.rule ≡ self.old.rule) }
+        ensures does {
+            outcome result (view B.meaning self.new)
+            ≡ withdraw_outcome (terms_of B.meaning R.base self.old) (view B.meaning self.old) slip }
+        ensures same { terms_of B.meaning R.base self.new ≡ terms_of B.meaning R.base self.old }
+        ensures kept { (bettor_of self.new ≡ bettor_of self.old) × (rule_of self.new ≡ rule_of self.old) }
         ensures refused { OnErr result (self.new ≡ self.old) }
     {
-        if self.stake_for(slip.tag, slip.number).is_none() {
+        if self.stake_for(&slip).is_none() {
             return Err(Refused {
                 fault: MonitorFault::Misfit,
                 slip,
@@ -127,9 +136,11 @@ impl<B: Bettor, R: RestartRule> Monitor<B, R> {
     }
 
     pub fn rearm(&mut self) -> Result<(), MonitorFault>
-        ensures does { outcome result (view B.nulls B.strategy self.new) ≡ rearming (terms_of B.nulls R.base self.old) (view B.nulls B.strategy self.old) }
-        ensures same { terms_of B.nulls R.base self.new ≡ terms_of B.nulls R.base self.old }
-        ensures kept { (self.new.bettor ≡ self.old.bettor) × (self.new.rule ≡ self.old.rule) }
+        ensures does {
+            outcome result (view B.meaning self.new)
+            ≡ rearm_outcome (terms_of B.meaning R.base self.old) (view B.meaning self.old) }
+        ensures same { terms_of B.meaning R.base self.new ≡ terms_of B.meaning R.base self.old }
+        ensures kept { (bettor_of self.new ≡ bettor_of self.old) × (rule_of self.new ≡ rule_of self.old) }
         ensures refused { OnErr result (self.new ≡ self.old) }
     {
         if let Phase::Staked(_) = self.phase {
@@ -141,7 +152,9 @@ impl<B: Bettor, R: RestartRule> Monitor<B, R> {
     }
 
     pub fn read(&self) -> Reading
-        ensures { outcome (told_by result) (view B.nulls B.strategy self.now) ≡ reading (terms_of B.nulls R.base self.now) (view B.nulls B.strategy self.now) }
+        ensures {
+            outcome (told_by result) (view B.meaning self.now)
+            ≡ read_outcome (terms_of B.meaning R.base self.now) (view B.meaning self.now) }
     {
         Reading {
             state: self.phase.state(),
@@ -152,12 +165,12 @@ impl<B: Bettor, R: RestartRule> Monitor<B, R> {
     }
 
     // The stake that a slip belongs to, if it is out.
-    fn stake_for(&self, tag: u32, number: u32) -> Option<&Stake>
-        ensures fits { IsSome result ↔ IsTrue (fitting (terms_of B.nulls R.base self.now) (view B.nulls B.strategy self.now) tag number) }
+    fn stake_for(&self, slip: &OpenSlip) -> Option<&Stake>
+        ensures fits { IsSome result ↔ IsTrue (is_fitting (view B.meaning self.now) slip.now) }
         ensures staked { IfSome result (λ stake. self.now.phase ≡ Staked stake.now) }
     {
         match &self.phase {
-            Phase::Staked(stake) if tag == self.tag && number == self.rounds + 1 => Some(stake),
+            Phase::Staked(stake) if slip.tag == self.tag && slip.number == self.rounds + 1 => Some(stake),
             _ => None,
         }
     }

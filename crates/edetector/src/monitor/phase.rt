@@ -1,6 +1,7 @@
 // What a monitor is doing, and the row that a stake has copied.
 ghost use Rattle.std.specs.Prelude.{◌≡◌, ℕ, ◌<◌, ◌≤◌, [], length, take, slice_index};
 ghost use Rattle.edetector.specs.Units.{factors_in};
+ghost use Rattle.edetector.specs.Tables.{most_factor};
 
 use super::super::bettor::Bettor;
 use super::super::state::State;
@@ -9,7 +10,7 @@ use super::super::units::{Factor, Row};
 #[derive(Drop)]
 pub struct Stake {
     pub(super) row: Row,
-    ghost small: { (k : ℕ) → slice_index (factors_in row) k ≤ 268435456 },
+    ghost small: { (k : ℕ) → slice_index (factors_in row) k ≤ most_factor },
 }
 
 #[derive(Drop)]
@@ -21,9 +22,8 @@ pub enum Phase {
 
 impl Stake {
     // The bettor's row now.
-    #[tactic(auto, using(crate::proofs::Rows::small_row, crate::proofs::Rows::row_copied))]
     pub(super) fn of<B: Bettor>(bettor: &B) -> Self
-        ensures { take (length (B.nulls bettor.now)) (factors_in result.row) ≡ B.strategy bettor.now [] }
+        ensures { take (length (B.meaning bettor.now).nulls) (factors_in result.row) ≡ (B.meaning bettor.now).strategy [] }
     {
         Stake { row: bettor.row() }
     }
@@ -32,7 +32,7 @@ impl Stake {
     pub(super) fn factor(&self, class: usize) -> Factor
         requires { class < 16 }
         ensures value { result.0 ≡ slice_index (factors_in self.now.row) class }
-        ensures small { result.0 ≤ 268435456 }
+        ensures small { result.0 ≤ most_factor }
     {
         self.row[class]
     }

@@ -1,16 +1,16 @@
 -- Each of sixteen calls names a factor of the strategy's row now, which has none past them.
 use Rattle.std.proofs.Common.{◌≡◌, [], get_or, refl, arith, rules}
-use Rattle.std.proofs.lemmas.List.{get_or_past}
 use Rattle.edetector.proofs.Limits.{null_few}
-use Rattle.edetector.proofs.Copying.{row_named}
+use Rattle.edetector.proofs.Copying.{row_padded}
 use Rattle.edetector.proofs.FromFn.{made_each}
 use Rattle.edetector.proofs.bettor.Bettor.row.Goals as goal
 
 pub returns : goal.returns
 returns g c =
     let b = c.args.self.now in
-    let row = g.Self.Bettor.strategy b [] in
+    let m = g.Self.Bettor.meaning b in
+    let law = g.met.Self.Bettor.law b in
+    let row = m.strategy [] in
     let made = c.from_fn.ensures.items in
-    row_named c.from_fn.result (λ k. get_or row k 0) made.long
-    (λ k h. get_or_past row k 0 (omega (arith, h, null_few (g.Self.Bettor.nulls b) (g.met.Self.Bettor.table b), g.met.Self.Bettor.whole b [])))
+    row_padded c.from_fn.result row made.long (omega (arith, null_few m.nulls law.table, law.factors []))
     (made_each _ (λ f. f.0.now ≡ b) (λ k y. y.0 ≡ get_or row k 0) (λ f k y q same called. search rules) _ c.from_fn.result 0 16 refl made.each)

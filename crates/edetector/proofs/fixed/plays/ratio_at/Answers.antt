@@ -12,7 +12,7 @@ likelihood_ratio-requires c =
     let k = c.args.class in
     let h = c.if-class-null.false in
     record {
-      light = (null.light, (omega (arith, alternative.light), null_light null alternative c.requires k h));
+      within = (null.light, (omega (arith, alternative.light), null_light null alternative c.requires k h));
       part = alternative_part null alternative c.requires k h;
       some = (alternative.heavy, null_some null alternative c.requires k h);
     }

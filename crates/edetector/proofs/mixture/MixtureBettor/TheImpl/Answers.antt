@@ -1,9 +1,12 @@
-use Rattle.edetector.proofs.MixedReads.{mix_steps}
+use Rattle.std.proofs.Common.{ap}
+use Rattle.edetector.specs.Bettors.{mixture}
+use Rattle.edetector.proofs.MixedReads.{mixture_steps}
 use Rattle.edetector.proofs.mixture.MixtureBettor.TheImpl.Goals as goal
 
 pub learn-tells : goal.learn-tells
 learn-tells g c =
     record {
-      step = mix_steps (λ m. g.F.Bettor.nulls m.first) (λ m. g.S.Bettor.nulls m.second) (λ m. g.F.Bettor.strategy m.first) (λ m. g.S.Bettor.strategy m.second) c.args.class c.args.self.now c.new.self.now c.ensures.first c.ensures.second c.ensures.same;
+      step = mixture_steps (g.F.Bettor.meaning c.args.self.now.first) (g.S.Bettor.meaning c.args.self.now.second) (g.F.Bettor.meaning c.new.self.now.first) (g.S.Bettor.meaning c.new.self.now.second) c.args.class c.ensures.first c.ensures.second
+          (λ past. ap (λ m. mixture (g.F.Bettor.meaning m.first) (g.S.Bettor.meaning m.second)) (c.ensures.same past));
       same = c.ensures.same;
     }

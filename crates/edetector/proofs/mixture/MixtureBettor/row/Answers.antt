@@ -1,10 +1,17 @@
-use Rattle.std.proofs.Common.{◌+◌, ◌/◌, [], sym, ◌∙◌, ap₂}
-use Rattle.edetector.proofs.MixedReads.{mixed_at}
+use Rattle.std.proofs.Common.{cond, [], sym, ◌∙◌, ap, ap₂}
+use Rattle.edetector.specs.Bettors.{averages}
+use Rattle.edetector.specs.Units.{padded}
+use Rattle.edetector.specs.Mixing.{level}
+use Rattle.edetector.proofs.Copying.{padded_averages}
 use Rattle.edetector.proofs.mixture.MixtureBettor.row.Goals as goal
 
-pub returns-then-same_tables : goal.returns-then-same_tables
-returns-then-same_tables g c =
-    let m = c.args.self.now in
-    let same = sym c.same_tables.ensures ∙ c.if-same_tables.true in
-    λ k. c.averaged.ensures k ∙ ap₂ (λ x y. (x + y) / 2) (c.row-row.ensures k) (c.row.ensures k)
-    ∙ sym (mixed_at _ _ _ _ (g.met.F.Bettor.whole m.first []) (g.met.S.Bettor.whole m.second []) k same)
+pub returns-then-self : goal.returns-then-self
+returns-then-self g c =
+    let m = c.self.inside in
+    let f = g.F.Bettor.meaning m.first in
+    let s = g.S.Bettor.meaning m.second in
+    let same = sym c.self.invariant ∙ c.if-self.true in
+    let level-rows = level f.nulls s.nulls (f.strategy []) (s.strategy []) ((g.met.F.Bettor.law m.first).factors []) ((g.met.S.Bettor.law m.second).factors []) same in
+    rw (← c.self.view_is) (c.averaged.ensures ∙ ap₂ averages c.row-row.ensures c.row.ensures
+    ∙ padded_averages (f.strategy []) (s.strategy []) level-rows
+    ∙ sym (ap (λ b. padded (cond b (averages (f.strategy []) (s.strategy [])) (f.strategy []))) same))

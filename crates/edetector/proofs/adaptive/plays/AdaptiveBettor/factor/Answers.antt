@@ -13,7 +13,7 @@ likelihood_ratio-requires c =
     let w = null_part b k h in
     let n = count_part b k h in
     record {
-      light = (b.null.light, (omega (arith, b.null.light, b.capped), omega (arith, w, b.null.light)));
+      within = (b.null.light, (omega (arith, b.null.light, b.capped), omega (arith, w, b.null.light)));
       part = omega (arith, w, n);
       some = (omega (arith, b.null.heavy), null_some b k h);
     }
