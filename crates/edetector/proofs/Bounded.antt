@@ -1,13 +1,14 @@
 -- The bound: A × weighted alarms ≤ weighted settled rounds.
 use Rattle.std.proofs.Common.{◌≡◌, ℕ, zero, suc, ◌+◌, ◌*◌, ◌≤◌, Bool, true, false, cond, if◌then◌else◌, ◌&&◌, eqb, leb, List, [], ◌∷◌, ◌++◌, length, Ok, Err, Result, sym, refl, ap, ◌∙◌, ap₂, mul_assoc, mul_comm, mul-le-mul_left, one-mul, mul-zero, mul-add, arith}
 use native.Mathlib.Nat.{le_of_mul-le-mul_left}
+use Rattle.std.specs.List.{sum}
 use Rattle.std.proofs.lemmas.Bool.Decides.{nat_tests}
 use Rattle.edetector.specs.declared.state.State.{State}
 use Rattle.edetector.specs.declared.state.State.TheVariants.{Armed, Staked, Rung}
 use Rattle.edetector.specs.declared.slip.ShownSlip.{ShownSlip}
 use Rattle.edetector.specs.declared.fault.MonitorFault.TheVariants.{Misfit}
 use Rattle.edetector.specs.declared.fault.Refused.{Refused}
-use Rattle.edetector.specs.Tables.{weigh, total, Fair, class_of}
+use Rattle.edetector.specs.Tables.{weigh, Fair, class_of}
 use Rattle.edetector.specs.Rules.{bet}
 use Rattle.edetector.specs.Bettors.{Strategy}
 use Rattle.edetector.specs.Slips.{shown_slip}
@@ -87,8 +88,8 @@ module _ (t : Terms) (p : Plan) (lawful : (m : ℕ) → t.base m ≤ m + bet) wh
       let left : weigh ws 0 (λ k. a * (c k * n + al k)) ≡ a * weigh ws 0 (λ k. c k * n + al k) = weigh_scale ws 0 a (λ k. c k * n + al k) in
       let right : weigh ws 0 (λ k. bet * ro k + n * grown t m (class_of (length t.nulls) k)) ≡ bet * weigh ws 0 ro + n * weigh ws 0 clamped =
       weigh_add ws 0 (λ k. bet * ro k) (λ k. n * grown t m (class_of (length t.nulls) k)) ∙ ap₂ (λ x y. x + y) (weigh_scale ws 0 bet ro) (weigh_scale ws 0 n clamped) in
-      let numbers = all_classes bet (weigh ws 0 ro) n (total ws) m.ledger (t.base m.ledger) (weigh ws 0 clamped) (rw same-grown (fair_step ws m.row (t.base m.ledger) fair)) (lawful m.ledger) in
-      let rounds-sum : weigh ws 0 (λ k. 1 * n + ro k) ≡ total ws * (1 * n) + weigh ws 0 ro = weigh_add ws 0 (λ k. 1 * n) ro ∙ ap (λ x. x + weigh ws 0 ro) (weigh_const ws 0 (1 * n)) in
+      let numbers = all_classes bet (weigh ws 0 ro) n (sum ws) m.ledger (t.base m.ledger) (weigh ws 0 clamped) (rw same-grown (fair_step ws m.row (t.base m.ledger) fair)) (lawful m.ledger) in
+      let rounds-sum : weigh ws 0 (λ k. 1 * n + ro k) ≡ sum ws * (1 * n) + weigh ws 0 ro = weigh_add ws 0 (λ k. 1 * n) ro ∙ ap (λ x. x + weigh ws 0 ro) (weigh_const ws 0 (1 * n)) in
       rw (alarms-are, rounds-are, rounds-sum, mass_more ws h) (omega (arith, summed, left, right, numbers))
 
   -- what an accepted settle of class k answers and leaves

@@ -1,7 +1,7 @@
 -- Sums over all sequences of classes.
 use Rattle.std.proofs.Common.{◌≡◌, ℕ, zero, suc, ◌+◌, ◌*◌, List, [], ◌∷◌, ◌++◌, map, length, get_or, sym, refl, ap, ◌∙◌, add-zero, mul_assoc, mul-zero, mul-add, arith}
-use Rattle.std.specs.List.{flat_map, range_with_len}
-use Rattle.edetector.specs.Tables.{weigh, total}
+use Rattle.std.specs.List.{flat_map, range_with_len, sum}
+use Rattle.edetector.specs.Tables.{weigh}
 use Rattle.edetector.specs.Plans.{weighted, weight_of, sum_of, sequences}
 use Rattle.edetector.specs.Sums.{weigh_add, weigh_scale}
 use Rattle.edetector.proofs.Weighing.{weigh_same, weigh_const}
@@ -17,7 +17,7 @@ mass ws h = over_all ws h (λ ks. 1)
 
 pub over_none : (ws : List ℕ) (h : ℕ) → over_all ws h (λ ks. 0) ≡ 0
 over_none ws zero = refl
-over_none ws (suc h) = weigh_same ws 0 (λ k. over_all ws h (λ ks. 0)) (λ k. 0) (λ k. over_none ws h) ∙ weigh_const ws 0 0 ∙ mul-zero (total ws)
+over_none ws (suc h) = weigh_same ws 0 (λ k. over_all ws h (λ ks. 0)) (λ k. 0) (λ k. over_none ws h) ∙ weigh_const ws 0 0 ∙ mul-zero (sum ws)
 
 pub over_plus : (ws : List ℕ) (h c : ℕ) (f : List ℕ → ℕ) → over_all ws h (λ ks. c + f ks) ≡ c * mass ws h + over_all ws h f
 over_plus ws zero c f = omega arith
@@ -26,7 +26,7 @@ over_plus ws (suc h) c f =
     ∙ weigh_add ws 0 (λ k. c * mass ws h) (λ k. over_all ws h (λ ks. f (k ∷ ks)))
     ∙ ap (λ n. n + over_all ws (suc h) f) (weigh_scale ws 0 c (λ k. mass ws h))
 
-pub mass_more : (ws : List ℕ) (h : ℕ) → mass ws (suc h) ≡ total ws * mass ws h
+pub mass_more : (ws : List ℕ) (h : ℕ) → mass ws (suc h) ≡ sum ws * mass ws h
 mass_more ws h = weigh_const ws 0 (mass ws h)
 
 sum_append : {X : Type 0} (f : X → ℕ) (xs ys : List X) → sum_of f (xs ++ ys) ≡ sum_of f xs + sum_of f ys

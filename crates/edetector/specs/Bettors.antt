@@ -1,8 +1,8 @@
 -- What bettors play: a strategy names a row of factors for every list of classes that may yet be learned.
 -- Every division drops its remainder.
-use Rattle.std.specs.Prelude.{◌≡◌, ℕ, ◌+◌, ◌*◌, ◌/◌, Bool, true, false, if◌then◌else◌, ◌&&◌, List, [], ◌∷◌, map, length, replicate, ◌==◌, nat_lt, slice_index, slice_set}
+use Rattle.std.specs.Prelude.{◌≡◌, ℕ, ◌+◌, ◌*◌, ◌/◌, Bool, true, false, if◌then◌else◌, ◌&&◌, List, [], ◌∷◌, map, length, replicate, sum, ◌==◌, nat_lt, slice_index, slice_set}
 use Rattle.std.specs.List.{zip}
-use Rattle.edetector.specs.Tables.{total, par}
+use Rattle.edetector.specs.Tables.{par}
 
 -- the row for the empty list is the row now
 abbrev pub Strategy : Type 0
@@ -30,7 +30,7 @@ ratios whole v ws alts = map (λ p. ratio whole v p.0 p.1) (zip ws alts)
 
 -- the fixed bettor's row, whatever is learned
 abbrev pub fixed : List ℕ → List ℕ → Strategy
-fixed ws alts later = ratios (total ws) (total alts) ws alts
+fixed ws alts later = ratios (sum ws) (sum alts) ws alts
 
 -- what an adaptive bettor has learned: how often each class, and how many in all
 pub record Tally : Type 0 where
@@ -61,7 +61,7 @@ plus ws cs = map (λ p. p.0 + p.1) (zip ws cs)
 
 -- the row of an adaptive bettor: its alternative is the null table with the tally added
 abbrev pub tally_row : List ℕ → Tally → List ℕ
-tally_row ws t = ratios (total ws) (total ws + t.seen) ws (plus ws t.counts)
+tally_row ws t = ratios (sum ws) (sum ws + t.seen) ws (plus ws t.counts)
 
 abbrev pub adaptive : List ℕ → Tally → Strategy
 adaptive ws t later = tally_row ws (tally_all ws t later)

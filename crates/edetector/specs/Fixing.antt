@@ -1,19 +1,13 @@
 -- What a fixed bettor plays is whole and fair.
-use Rattle.std.specs.Prelude.{◌≡◌, [], length}
-use Rattle.std.proofs.Common.{sym, ◌∙◌, arith}
-use Rattle.edetector.specs.declared.table.Table.{Table}
-use Rattle.edetector.specs.Tables.{total, Fair}
-use Rattle.edetector.specs.Weights.{null_weights, alternative_weights}
+use Rattle.std.specs.Prelude.{◌≡◌, ℕ, List, [], length, sum, None}
+use Rattle.std.proofs.Common.{arith}
+use Rattle.edetector.specs.Tables.{alternative_fault, Fair}
 use Rattle.edetector.specs.Bettors.{fixed}
-use Rattle.edetector.specs.Held.{held_long, null_long}
+use Rattle.edetector.specs.Limits.{table_limits}
 use Rattle.edetector.specs.Adapting.{ratios_long, ratios_fair}
 
-module _ (null : Table 1) (alternative : Table 0) (level : alternative.classes ≡ null.classes) where
-  pub fixed_level : length (alternative_weights alternative) ≡ length (null_weights null)
-  fixed_level = held_long alternative ∙ level ∙ sym (null_long null)
+pub fixed_long : (ws alts : List ℕ) → length alts ≡ length ws → length (fixed ws alts []) ≡ length ws
+fixed_long ws alts level = ratios_long _ _ ws alts level
 
-  pub fixed_long : length (fixed (null_weights null) (alternative_weights alternative) []) ≡ length (null_weights null)
-  fixed_long = ratios_long _ _ (null_weights null) (alternative_weights alternative) fixed_level
-
-  pub fixed_fair : Fair (null_weights null) (fixed (null_weights null) (alternative_weights alternative) [])
-  fixed_fair = ratios_fair (total (alternative_weights alternative)) (null_weights null) (alternative_weights alternative) fixed_level (omega (arith, alternative.sums, alternative.heavy)) (omega arith)
+pub fixed_fair : (ws alts : List ℕ) → alternative_fault alts ≡ None → length alts ≡ length ws → Fair ws (fixed ws alts [])
+fixed_fair ws alts unbroken level = ratios_fair (sum alts) ws alts level (table_limits 0 alts unbroken).heavy (omega arith)

@@ -2,6 +2,7 @@
 use Rattle.std.specs.Prelude.{ℕ, ◌+◌, ◌*◌, ◌/◌, Bool, if◌then◌else◌, ◌&&◌, List, [], length, Ok, Err, Result, ◌==◌, nat_le, nat_lt, slice_index}
 use Rattle.edetector.specs.declared.state.State.{State}
 use Rattle.edetector.specs.declared.state.State.TheVariants.{Armed, Staked, Rung}
+use Rattle.edetector.specs.declared.monitor.Reading.{Reading}
 use Rattle.edetector.specs.declared.slip.OpenSlip.{OpenSlip}
 use Rattle.edetector.specs.declared.slip.ShownSlip.{ShownSlip}
 use Rattle.edetector.specs.declared.fault.MonitorFault.{MonitorFault}
@@ -100,11 +101,5 @@ abbrev pub rearming : Terms → Standing → Outcome (Result (Unit {0}) MonitorF
 rearming t s = if is_staked s.state then outcome (Err NotArmed) s else outcome (Ok tt) (rearmed s)
 
 -- Read
-pub record Told : Type 0 where
-  pub state : State
-  pub ledger : ℕ
-  pub rounds : ℕ
-  pub alarms : ℕ
-
-abbrev pub reading : Terms → Standing → Outcome Told
+abbrev pub reading : Terms → Standing → Outcome Reading
 reading t s = outcome (record { state = s.state; ledger = s.ledger; rounds = s.rounds; alarms = s.alarms }) s

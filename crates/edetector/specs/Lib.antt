@@ -2,6 +2,7 @@ pub mod Bettors
 pub mod Examples
 pub mod Faults
 pub mod Ledger
+pub mod Limits
 pub mod Pairs
 pub mod Phases
 pub mod Plans
@@ -12,7 +13,6 @@ pub mod Tables
 pub mod Tallies
 pub mod Units
 pub mod View
-pub mod Weights
 pub mod Mixing
 pub mod Sums
 pub mod Held

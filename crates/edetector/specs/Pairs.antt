@@ -4,9 +4,8 @@ use Rattle.edetector.specs.declared.table.Table.{Table}
 use Rattle.edetector.specs.declared.fixed.Fixed.{Fixed}
 use Rattle.edetector.specs.declared.value.ValueFault.{ValueFault}
 use Rattle.edetector.specs.declared.value.ValueFault.TheVariants.{Alternative}
-use Rattle.edetector.specs.Weights.{null_weights, alternative_weights}
 
 -- a fixed bettor holds the two tables handed over, or these have not as many classes
 abbrev pub Paired : Table 1 → Table 0 → Result Fixed ValueFault → Type 0
-Paired null alternative (Ok b) = (length (alternative_weights alternative) ≡ length (null_weights null)) × (b.null ≡ null) × (b.alternative ≡ alternative)
-Paired null alternative (Err f) = (length (alternative_weights alternative) ≢ length (null_weights null)) × (f ≡ Alternative)
+Paired null alternative (Ok b) = (length alternative ≡ length null) × (b.null ≡ null) × (b.alternative ≡ alternative)
+Paired null alternative (Err f) = (length alternative ≢ length null) × (f ≡ Alternative)

@@ -2,13 +2,12 @@
 use Rattle.std.specs.Prelude.{◌≡◌, ℕ, true, false, List, Ok, Err, Result}
 use Rattle.edetector.specs.declared.state.State.{State}
 use Rattle.edetector.specs.declared.monitor.Monitor.{Monitor}
-use Rattle.edetector.specs.declared.monitor.Reading.{Reading}
 use Rattle.edetector.specs.declared.fault.Unmade.{Unmade}
 use Rattle.edetector.specs.declared.value.ValueFault.TheVariants.{Threshold}
 use Rattle.edetector.specs.Phases.{state_of, row_in}
 use Rattle.edetector.specs.Tables.{from_to}
 use Rattle.edetector.specs.Bettors.{Strategy}
-use Rattle.edetector.specs.Ledger.{Terms, Standing, Told, fresh}
+use Rattle.edetector.specs.Ledger.{Terms, Standing, fresh}
 
 abbrev pub terms : List ℕ → (ℕ → ℕ) → ℕ → ℕ → Terms
 terms ws base threshold tag = record { nulls = ws; base = base; threshold = threshold; tag = tag }
@@ -21,10 +20,7 @@ terms_of nulls base m = terms (nulls m.bettor) (base m.rule) m.threshold m.tag
 
 abbrev pub view : {B R : Type 0} → (B → List ℕ) → (B → Strategy) → Monitor B R → Standing
 view nulls strategy m =
-    standing (state_of m.phase) m.ledger.parts m.rounds m.alarms (row_in m.phase (nulls m.bettor)) (strategy m.bettor)
-
-abbrev pub told_by : Reading → Told
-told_by r = record { state = r.state; ledger = r.ledger.parts; rounds = r.rounds; alarms = r.alarms }
+    standing (state_of m.phase) m.ledger m.rounds m.alarms (row_in m.phase (nulls m.bettor)) (strategy m.bettor)
 
 -- a monitor just made, or what was handed over, handed back where the threshold is not 1 to 4,096
 abbrev pub Made : {B R : Type 0} → (B → List ℕ) → (B → Strategy) → (R → ℕ → ℕ) → B → R → ℕ → ℕ → Result (Monitor B R) (Unmade B R) → Type 0

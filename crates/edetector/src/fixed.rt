@@ -1,8 +1,8 @@
 // The fixed bettor: it plays the likelihood ratios of one alternative, whatever it learns.
-ghost use Rattle.std.specs.Prelude.{◌≡◌, []};
+ghost use Rattle.std.specs.Prelude.{◌≡◌, [], length, None};
 ghost use Rattle.edetector.specs.Units.{IsRow};
 ghost use Rattle.edetector.specs.Bettors.{fixed as plays};
-ghost use Rattle.edetector.specs.Weights.{null_weights, alternative_weights};
+ghost use Rattle.edetector.specs.Tables.{null_fault, alternative_fault};
 
 use super::table::{AlternativeTable, NullTable};
 use super::units::Row;
@@ -15,6 +15,8 @@ pub struct Fixed {
     pub(super) null: NullTable,
     pub(super) alternative: AlternativeTable,
     pub(super) row: Row,
-    ghost level: { alternative.classes ≡ null.classes },
-    ghost played: { IsRow row (plays (null_weights null) (alternative_weights alternative) []) },
+    ghost unbroken_null: { null_fault null ≡ None },
+    ghost unbroken_alternative: { alternative_fault alternative ≡ None },
+    ghost level: { length alternative ≡ length null },
+    ghost played: { IsRow row (plays null alternative []) },
 }

@@ -23,7 +23,7 @@ pub struct Monitor<B, R> {
     alarms: u32,
     ghost least: { 1 ≤ threshold },
     ghost most: { threshold ≤ 4096 },
-    ghost stands: { level (state_of phase) (threshold * bet) ledger.parts ≡ true },
+    ghost stands: { level (state_of phase) (threshold * bet) ledger ≡ true },
     ghost fewer: { alarms ≤ rounds },
     ghost lasting: { lasts (state_of phase) rounds ≡ true },
 }

@@ -9,7 +9,7 @@ pub trait RestartRule {
     ghost base: { Self → ℕ → ℕ };
 
     fn restart(&self, wealth: Wealth) -> Base
-        ensures { result.0 ≡ base self.now wealth.parts };
+        ensures { result.0 ≡ base self.now wealth };
 
     // at most one bet is begun anew
     ghost modest: { (r : Self) (m : ℕ) → base r m ≤ m + bet };

@@ -11,7 +11,7 @@ use super::wealth::{BET, Wealth};
 const CAP: u64 = 4294967296;
 
 fn capped(wealth: Wealth, begun: u64) -> Base
-    ensures { result.0 ≡ capped wealth.parts begun }
+    ensures { result.0 ≡ capped wealth begun }
 {
     if wealth.parts > CAP {
         Base(wealth.parts)

@@ -2,8 +2,6 @@
 ghost use Rattle.std.specs.Prelude.{◌≡◌, length};
 ghost use Rattle.edetector.specs.Bettors.{adaptive as plays, no_tally, tally_class};
 ghost use Rattle.edetector.specs.Tallies.{tally_of};
-ghost use Rattle.edetector.specs.Weights.{null_weights};
-ghost use Rattle.edetector.specs.Held.{null_unbroken};
 ghost use Rattle.edetector.specs.Tallying.{tally_long, tally_fair};
 
 use super::super::bettor::Bettor;
@@ -19,8 +17,10 @@ impl Adaptive {
     // A bettor that has learned nothing.
     pub fn new(null: NullTable) -> Adaptive
         ensures table { result.null ≡ null }
-        ensures fresh { tally_of result ≡ no_tally (length (null_weights null)) }
+        ensures fresh { tally_of result ≡ no_tally (length null) }
     {
+        // a table tells with its classes that it breaks no limit
+        let _ = null.classes();
         Adaptive {
             null,
             counts: [0; 16],
@@ -30,11 +30,11 @@ impl Adaptive {
 }
 
 impl Bettor for Adaptive {
-    ghost nulls = { λ b. null_weights b.null };
+    ghost nulls = { λ b. b.null };
 
-    ghost strategy = { λ b. plays (null_weights b.null) (tally_of b) };
+    ghost strategy = { λ b. plays b.null (tally_of b) };
 
-    ghost table = { λ b. null_unbroken b.null };
+    ghost table = { λ b. b.unbroken };
 
     ghost whole = { λ b later. tally_long b later };
 
@@ -50,22 +50,22 @@ impl Bettor for Adaptive {
     }
 
     fn factor(&self, class: usize) -> Factor {
-        if class >= self.null.classes {
+        if class >= self.null.classes() {
             return Factor(0);
         }
-        let w = self.null.weights[class];
+        let w = self.null.weight(class);
         let a = Weight(w.0 + self.counts[class]);
-        let whole = self.null.whole;
+        let whole = self.null.total();
         likelihood_ratio(whole, whole + self.seen, w, a)
     }
 
     // A tally that stays leaves all else as it was.
     fn learn(&mut self, class: usize)
         ensures table { self.new.null ≡ self.old.null }
-        ensures tally { tally_of self.new ≡ tally_class (null_weights self.old.null) (tally_of self.old) class }
-        ensures same { tally_class (null_weights self.old.null) (tally_of self.old) class ≡ tally_of self.old → self.new ≡ self.old }
+        ensures tally { tally_of self.new ≡ tally_class self.old.null (tally_of self.old) class }
+        ensures same { tally_class self.old.null (tally_of self.old) class ≡ tally_of self.old → self.new ≡ self.old }
     {
-        if class < self.null.classes && self.seen < MOST_TALLIED {
+        if class < self.null.classes() && self.seen < MOST_TALLIED {
             self.counts[class] += 1;
             self.seen += 1;
         }

@@ -4,7 +4,7 @@ ghost use Rattle.edetector.specs.declared.monitor.phase.Phase.TheVariants.{Stake
 ghost use Rattle.edetector.specs.Ledger.{outcome, fitting, staking, settling, withdrawing, rearming, reading};
 ghost use Rattle.edetector.specs.Plans.{Bound};
 ghost use Rattle.edetector.specs.Rules.{bet};
-ghost use Rattle.edetector.specs.View.{view, terms, terms_of, told_by, Made};
+ghost use Rattle.edetector.specs.View.{view, terms, terms_of, Made};
 
 use super::super::bettor::Bettor;
 use super::super::fault::{MonitorFault, Refused, Unmade};
@@ -24,7 +24,7 @@ const MOST_ROUNDS: u32 = 1000000;
 fn grown(base: Base, factor: Factor) -> Wealth
     requires low { base.0 ≤ 4097 * bet }
     requires small { factor.0 ≤ 268435456 }
-    ensures { result.parts ≡ (base.0 * factor.0) / 4096 }
+    ensures { result ≡ (base.0 * factor.0) / 4096 }
 {
     Wealth {
         parts: base.0 * u64::from(factor.0) / 4096,
@@ -99,7 +99,7 @@ impl<B: Bettor, R: RestartRule> Monitor<B, R> {
         self.ledger = grown(self.rule.restart(self.ledger), factor);
         self.bettor.learn(k);
         self.rounds += 1;
-        let rang = self.ledger.parts >= u64::from(self.threshold) * BET;
+        let rang = self.ledger.parts() >= u64::from(self.threshold) * BET;
         if rang {
             self.alarms += 1;
             self.phase = Phase::Rung;
@@ -141,7 +141,7 @@ impl<B: Bettor, R: RestartRule> Monitor<B, R> {
     }
 
     pub fn read(&self) -> Reading
-        ensures { outcome (told_by result) (view B.nulls B.strategy self.now) ≡ reading (terms_of B.nulls R.base self.now) (view B.nulls B.strategy self.now) }
+        ensures { outcome result (view B.nulls B.strategy self.now) ≡ reading (terms_of B.nulls R.base self.now) (view B.nulls B.strategy self.now) }
     {
         Reading {
             state: self.phase.state(),
