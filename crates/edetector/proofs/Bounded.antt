@@ -1,22 +1,22 @@
 -- The bound: A × weighted alarms ≤ weighted settled rounds.
 use Rattle.std.proofs.Common.{◌≡◌, ℕ, zero, suc, ◌+◌, ◌*◌, ◌≤◌, Bool, true, false, cond, leb, List, [], ◌∷◌, ◌++◌, length, replicate, Ok, Err, sym, refl, ap, ◌∙◌, ap₂, mul_assoc, mul_comm, mul-le-mul_left, one-mul, mul-zero, mul-add, arith}
 use native.Mathlib.Nat.{le_of_mul-le-mul_left}
+use Rattle.std.specs.List.{sum}
 use Rattle.std.proofs.lemmas.Bool.{false≢true}
 use Rattle.std.proofs.lemmas.Bool.Decides.{nat_tests}
 use Rattle.edetector.specs.declared.state.State.{State}
 use Rattle.edetector.specs.declared.state.State.TheVariants.{Armed, Staked, Rung}
-use Rattle.edetector.specs.Tables.{weigh, total, IsFair, class_of}
+use Rattle.edetector.specs.Tables.{unit_factor, class_of}
 use Rattle.edetector.specs.Rules.{bet, IsRestartRule}
 use Rattle.edetector.specs.Bettors.{Meaning, IsBettor}
 use Rattle.edetector.specs.States.{is_staked}
-use Rattle.edetector.specs.Ledger.{Terms, Standing, first_standing, after_settle, rings, ledger_after}
+use Rattle.edetector.specs.Ledger.{Terms, Standing, terms, first_standing, after_settle, rings, ledger_after}
 use Rattle.edetector.specs.Calls.{Answer, OfStake, OfSettle, OfWithdraw, OfRearm, OfRead, is_round, is_alarm, alarms_in, rounds_in}
 use Rattle.edetector.specs.Plans.{Plan, run, Bound}
-use Rattle.edetector.specs.View.{terms}
-use Rattle.edetector.specs.Sums.{weigh_mono, weigh_add, weigh_scale}
+use Rattle.edetector.specs.Lemmas.Sums.{weigh, fair_by_class, weigh_mono, weigh_add, weigh_scale}
 use Rattle.edetector.proofs.Weighing.{weigh_same, weigh_within, weigh_const, fair_step}
 use Rattle.edetector.proofs.Sequences.{over_all, over_same, weighted_is, replicate_long, mass, mass_more, over_none, over_plus}
-use Rattle.edetector.proofs.Fairness.{potential, potential_at, row_fair, Sound, all_kept}
+use Rattle.edetector.proofs.Fairness.{FairRow, potential, potential_at, row_fair, Sound, all_kept}
 use Rattle.edetector.proofs.Runs.{CountsRounds, answers_from, before_settle, run_none, run_more}
 
 -- an alarm costs a, and what is left of the ledger is the potential
@@ -85,7 +85,7 @@ module _ (t : Terms) (p : Plan) (rule : IsRestartRule t.base) where
   rounds s past ks = rounds_in (answers_from t p s past ks)
 
   -- the same, once the calls before the next settlement have left m, staked
-  from_staked : (h : ℕ) (m : Standing) (past : List ℕ) → IsFair t.nulls m.row → ((k : ℕ) → Holds h (after_settle t m (class_of (length t.nulls) k)) (past ++ (k ∷ []))) →
+  from_staked : (h : ℕ) (m : Standing) (past : List ℕ) → FairRow t.nulls m.row → ((k : ℕ) → Holds h (after_settle t m (class_of (length t.nulls) k)) (past ++ (k ∷ []))) →
       (t.threshold * bet) * weigh t.nulls 0 (counted alarms (alarm_here m) m past h)
       ≤ bet * weigh t.nulls 0 (counted rounds (λ c. 1) m past h) + mass (replicate (suc h) t.nulls) * m.ledger
   from_staked h m past fair ih =
@@ -104,8 +104,8 @@ module _ (t : Terms) (p : Plan) (rule : IsRestartRule t.base) where
       let left : weigh ws 0 (λ k. a * (c k * n + al k)) ≡ a * weigh ws 0 (λ k. c k * n + al k) = weigh_scale ws 0 a (λ k. c k * n + al k) in
       let right : weigh ws 0 (λ k. bet * ro k + n * clamped k) ≡ bet * weigh ws 0 ro + n * weigh ws 0 clamped =
       weigh_add ws 0 (λ k. bet * ro k) (λ k. n * clamped k) ∙ ap₂ (λ x y. x + y) (weigh_scale ws 0 bet ro) (weigh_scale ws 0 n clamped) in
-      let numbers = all_classes bet (weigh ws 0 ro) n (total ws) m.ledger (t.base m.ledger) (weigh ws 0 clamped) (rw same-ledger (fair_step ws m.row (t.base m.ledger) fair)) (rule.at_most_a_bet m.ledger) in
-      let rounds-sum : weigh ws 0 (λ k. 1 * n + ro k) ≡ total ws * (1 * n) + weigh ws 0 ro = weigh_add ws 0 (λ k. 1 * n) ro ∙ ap (λ x. x + weigh ws 0 ro) (weigh_const ws 0 (1 * n)) in
+      let numbers = all_classes bet (weigh ws 0 ro) n (sum ws) m.ledger (t.base m.ledger) (weigh ws 0 clamped) (rw same-ledger (fair_step ws m.row (t.base m.ledger) fair)) (rule.at_most_a_bet m.ledger) in
+      let rounds-sum : weigh ws 0 (λ k. 1 * n + ro k) ≡ sum ws * (1 * n) + weigh ws 0 ro = weigh_add ws 0 (λ k. 1 * n) ro ∙ ap (λ x. x + weigh ws 0 ro) (weigh_const ws 0 (1 * n)) in
       rw (alarms-are, rounds-are, rounds-sum, mass_more ws (replicate h ws)) (omega (arith, summed, left, right, numbers))
 
   -- the same, where a plan's calls have left m in the state st
@@ -134,13 +134,13 @@ module _ (t : Terms) (p : Plan) (rule : IsRestartRule t.base) where
       weigh_same ws 0 _ _ (λ k. over_same (replicate h ws) _ _ (λ ks. run_more is_round (λ a apart. apart) t p s past k ks)) in
       omega (arith, step, more, ap (λ n. (t.threshold * bet) * n) alarms-are, rounds-are)
 
-pub bound : (m : Meaning) (base : ℕ → ℕ) (threshold tag : ℕ) → IsRestartRule base → IsBettor m → Bound (terms m.nulls base threshold) tag m.strategy
+pub bound : (m : Meaning) (base : ℕ → ℕ) (threshold tag : ℕ) → IsRestartRule base → IsBettor m → Bound m base threshold tag
 bound m base threshold tag rule bettor h p =
-    let t = terms m.nulls base threshold in
+    let t = terms m base threshold in
     let tables = replicate h t.nulls in
     let long = replicate_long t.nulls h in
-    let s = first_standing t tag m.strategy in
-    let all = holds t p rule h s [] (bettor.fair, tt) in
+    let s = first_standing t tag m in
+    let all = holds t p rule h s [] ((λ later. fair_by_class m.nulls (m.strategy later) (bettor.factors later) (bettor.fair later)), tt) in
     let al = alarms_from t p s [] h in
     let ro = rounds_from t p s [] h in
     let turned : (t.threshold * bet) * al ≡ bet * (t.threshold * al) = ap (λ x. x * al) (mul_comm t.threshold bet) ∙ mul_assoc bet t.threshold al in

@@ -5,7 +5,7 @@ use Rattle.std.proofs.lemmas.Bool.{cases_lt}
 use Rattle.edetector.specs.declared.units.Factor.{Factor}
 use Rattle.edetector.specs.Units.{factors_in, padded}
 use Rattle.edetector.specs.Bettors.{averages}
-use Rattle.edetector.specs.Mixing.{averages_long}
+use Rattle.edetector.specs.Lemmas.Mixtures.{averages_long}
 use Rattle.edetector.proofs.Lists.{number_at}
 
 zeros_at : (n k : ℕ) → get_or (replicate {A = ℕ} n 0) k 0 ≡ 0

@@ -1,12 +1,14 @@
 -- What the calls of a plan keep between settlements: rows that are fair, and a potential that does not grow.
-use Rattle.std.proofs.Common.{◌≡◌, ℕ, ◌+◌, ◌-◌, ◌*◌, ◌≤◌, Bool, true, false, cond, ◌&&◌, eqb, ltb, List, [], ◌∷◌, length, Ok, Err, Result, ap, ◌∙◌, le_trans, le_refl, arith}
+use Rattle.std.proofs.Common.{◌≡◌, ℕ, ◌+◌, ◌-◌, ◌*◌, ◌≤◌, Bool, true, false, cond, ◌&&◌, eqb, ltb, List, [], ◌∷◌, length, slice_index, Ok, Err, Result, ap, ◌∙◌, le_trans, le_refl, arith}
+use Rattle.std.specs.List.{sum}
 use Rattle.std.proofs.lemmas.Bool.{cond_both}
 use Rattle.edetector.specs.declared.state.State.{State}
 use Rattle.edetector.specs.declared.state.State.TheVariants.{Armed, Staked, Rung}
 use Rattle.edetector.specs.declared.fault.MonitorFault.TheVariants.{Misfit, Spent}
 use Rattle.edetector.specs.declared.slip.ShownSlip.{ShownSlip}
 use Rattle.edetector.specs.declared.fault.Refused.{Refused}
-use Rattle.edetector.specs.Tables.{IsFair, class_of}
+use Rattle.edetector.specs.Tables.{unit_factor, class_of}
+use Rattle.edetector.specs.Lemmas.Sums.{weigh}
 use Rattle.edetector.specs.Rules.{bet}
 use Rattle.edetector.specs.States.{most_rounds}
 use Rattle.edetector.specs.Bettors.{Strategy}
@@ -23,13 +25,17 @@ potential_at a Rung m = m - a
 abbrev pub potential : Terms → Standing → ℕ
 potential t s = potential_at (t.threshold * bet) s.state s.ledger
 
+-- fair, class by class
+abbrev pub FairRow : List ℕ → List ℕ → Type 0
+FairRow ws row = weigh ws 0 (λ k. slice_index row k) ≤ unit_factor * sum ws
+
 abbrev pub row_fair : List ℕ → State → List ℕ → Type 0
 row_fair ws Armed row = Unit {0}
-row_fair ws Staked row = IsFair ws row
+row_fair ws Staked row = FairRow ws row
 row_fair ws Rung row = Unit {0}
 
 abbrev pub PlaysFair : List ℕ → Strategy → Type 0
-PlaysFair ws strategy = (later : List ℕ) → IsFair ws (strategy later)
+PlaysFair ws strategy = (later : List ℕ) → FairRow ws (strategy later)
 
 abbrev pub Sound : Terms → Standing → Type 0
 Sound t s = PlaysFair t.nulls s.strategy × row_fair t.nulls s.state s.row

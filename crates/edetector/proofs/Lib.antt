@@ -4,12 +4,12 @@ pub mod Copying
 pub mod Fairness
 pub mod FixedReads
 pub mod FromFn
+pub mod HeldEqual
 pub mod Limits
 pub mod Lists
 pub mod MixedReads
 pub mod Ratios
 pub mod RatiosAt
-pub mod Reading
 pub mod Rows
 pub mod Runs
 pub mod SameTables

@@ -1,20 +1,13 @@
--- Lists of units read as numbers, and totals.
-use Rattle.std.specs.Prelude.{◌≡◌, ℕ, zero, suc, ◌+◌, ◌<◌, ◌≤◌, List, [], ◌∷◌, ◌++◌, map, length, take, slice_index, slice_index_or, slice_set, refl}
+-- Lists of units read as numbers, and sums.
+use Rattle.std.specs.Prelude.{◌≡◌, ℕ, zero, suc, ◌+◌, ◌<◌, ◌≤◌, List, [], ◌∷◌, ◌++◌, map, length, take, sum, slice_index, slice_index_or, slice_set, refl}
 use Rattle.std.proofs.Common.{sym, ap, ◌∙◌, arith}
 use Rattle.std.proofs.lemmas.List.{take_more, take_more_set, get_or-take}
-use Rattle.edetector.specs.Tables.{total}
+use Rattle.edetector.specs.Lemmas.Sums.{sum_cons}
 
-pub total_push : (xs : List ℕ) (x : ℕ) → total (xs ++ (x ∷ [])) ≡ total xs + x
-total_push [] x = omega arith
-total_push (y ∷ xs) x = omega (arith, total_push xs x)
-
-pub total_more : (xs : List ℕ) (k : ℕ) → k < length xs → total (take (k + 1) xs) ≡ total (take k xs) + slice_index xs k
-total_more xs k h = ap total (take_more xs k 0 h) ∙ total_push (take k xs) (slice_index xs k)
-
-pub getD_le_total : (ws : List ℕ) (k : ℕ) → slice_index ws k ≤ total ws
-getD_le_total [] k = omega arith
-getD_le_total (w ∷ ws) zero = omega arith
-getD_le_total (w ∷ ws) (suc k) = omega (arith, getD_le_total ws k)
+pub index_le_sum : (ws : List ℕ) (k : ℕ) → slice_index ws k ≤ sum ws
+index_le_sum [] k = omega arith
+index_le_sum (w ∷ ws) zero = omega (arith, sum_cons w ws)
+index_le_sum (w ∷ ws) (suc k) = omega (arith, index_le_sum ws k, sum_cons w ws)
 
 -- one element more is copied
 pub copy_more : (copy src : List ℕ) (k : ℕ) → k < length copy → k < length src → take k copy ≡ take k src → take (k + 1) (slice_set copy k (slice_index src k)) ≡ take (k + 1) src

@@ -4,7 +4,7 @@ use Rattle.std.proofs.Common.{sym, ap, ◌∙◌, arith, ⊎_elim}
 use Rattle.std.proofs.lemmas.Bool.{cases_lt, cond-false, cond-true, cond_both}
 use Rattle.std.proofs.lemmas.Bool.Decides.{nat_tests}
 use Rattle.edetector.specs.Bettors.{Meaning, strategy_after, meaning_after, same_table, averages, mixed_row, mixture}
-use Rattle.edetector.specs.Mixing.{same_from, averages_at, level}
+use Rattle.edetector.specs.Lemmas.Mixtures.{same_from, averages_at, level}
 
 module _ (ws vs f g : List ℕ) (long-f : length f ≡ length ws) (long-g : length g ≡ length vs) where
   pub mixed_at : (k : ℕ) → same_table ws vs ≡ true → slice_index (mixed_row ws vs f g) k ≡ (slice_index f k + slice_index g k) / 2

@@ -7,7 +7,7 @@ use Rattle.std.proofs.lemmas.Bool.{false_from_ne_true}
 use Rattle.std.proofs.lemmas.List.{ext_get_or}
 use Rattle.std.proofs.lemmas.List.FromFn.{length-range_with_len, get_or-range_with_len}
 use Rattle.edetector.specs.Bettors.{pairs_alike, same_table}
-use Rattle.edetector.specs.Mixing.{same_from}
+use Rattle.edetector.specs.Lemmas.Mixtures.{same_from}
 
 pairs_self : (xs : List ℕ) → pairs_alike xs xs ≡ length xs
 pairs_self [] = refl

@@ -1,10 +1,10 @@
 -- Sums over all sequences of classes.
 use Rattle.std.proofs.Common.{◌≡◌, ℕ, zero, suc, ◌+◌, ◌*◌, List, [], ◌∷◌, ◌++◌, map, length, replicate, get_or, sym, refl, ap, ◌∙◌, add-zero, mul_assoc, mul-zero, mul-add, arith}
-use Rattle.std.specs.List.{flat_map, range_with_len, sum_by}
+use Rattle.std.specs.List.{flat_map, range_with_len, sum, sum_by}
 use Rattle.std.proofs.lemmas.List.Sums.{sum_by-cons, sum_by-append}
-use Rattle.edetector.specs.Tables.{weigh, total}
+use Rattle.edetector.specs.Lemmas.Sums.{weigh}
 use Rattle.edetector.specs.Plans.{weighted, weight_of, sequences}
-use Rattle.edetector.specs.Sums.{weigh_add, weigh_scale}
+use Rattle.edetector.specs.Lemmas.Sums.{weigh_add, weigh_scale}
 use Rattle.edetector.proofs.Weighing.{weigh_same, weigh_const}
 
 -- the sum over all sequences of the sequence's weight × f, table by table
@@ -18,7 +18,7 @@ mass tables = over_all tables (λ ks. 1)
 
 pub over_none : (tables : List (List ℕ)) → over_all tables (λ ks. 0) ≡ 0
 over_none [] = refl
-over_none (ws ∷ tables) = weigh_same ws 0 (λ k. over_all tables (λ ks. 0)) (λ k. 0) (λ k. over_none tables) ∙ weigh_const ws 0 0 ∙ mul-zero (total ws)
+over_none (ws ∷ tables) = weigh_same ws 0 (λ k. over_all tables (λ ks. 0)) (λ k. 0) (λ k. over_none tables) ∙ weigh_const ws 0 0 ∙ mul-zero (sum ws)
 
 pub over_same : (tables : List (List ℕ)) (f g : List ℕ → ℕ) → ((ks : List ℕ) → f ks ≡ g ks) → over_all tables f ≡ over_all tables g
 over_same [] f g h = h []
@@ -32,7 +32,7 @@ over_plus (ws ∷ tables) c f =
     ∙ weigh_add ws 0 (λ k. c * mass tables) (λ k. over_all tables (λ ks. f (k ∷ ks)))
     ∙ ap (λ n. n + over_all (ws ∷ tables) f) (weigh_scale ws 0 c (λ k. mass tables))
 
-pub mass_more : (ws : List ℕ) (tables : List (List ℕ)) → mass (ws ∷ tables) ≡ total ws * mass tables
+pub mass_more : (ws : List ℕ) (tables : List (List ℕ)) → mass (ws ∷ tables) ≡ sum ws * mass tables
 mass_more ws tables = weigh_const ws 0 (mass tables)
 
 sum_joined : {X Y : Type 0} (f : Y → ℕ) (g : X → List Y) (xs : List X) → sum_by f (flat_map g xs) ≡ sum_by (λ x. sum_by f (g x)) xs

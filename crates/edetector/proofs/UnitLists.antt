@@ -1,18 +1,20 @@
 -- The weights of a lent slice, tested, added up and copied.
-use Rattle.std.specs.Prelude.{◌≡◌, ℕ, ◌+◌, ◌*◌, ◌<◌, ◌≤◌, true, false, List, [], ◌∷◌, All, length, take, sum_by, slice_index, slice_index_or, refl}
-use Rattle.std.proofs.Common.{ap, ◌∙◌, arith}
-use Rattle.std.proofs.lemmas.List.{length-map, take-map, get_or-take}
+use Rattle.std.specs.Prelude.{◌≡◌, ℕ, ◌+◌, ◌*◌, ◌<◌, ◌≤◌, true, false, List, [], ◌∷◌, All, None, length, take, sum, sum_by, slice_index, slice_index_or, refl}
+use Rattle.std.proofs.Common.{sym, ap, ◌∙◌, arith}
+use Rattle.std.proofs.lemmas.List.{length-map, take-map}
 use Rattle.std.proofs.lemmas.List.Elements.{All-from_get_or}
 use Rattle.std.proofs.lemmas.List.Sums.{sum_by-le, sum_by-cons}
 use Rattle.edetector.specs.declared.units.Weight.{Weight}
 use Rattle.edetector.specs.Units.{weights_in}
-use Rattle.edetector.specs.Tables.{total, weights_within}
+use Rattle.edetector.specs.Tables.{fewest_classes, most_classes, most_weight, most_total, weights_within, table_fault}
+use Rattle.edetector.specs.Lemmas.Limits.{each_within}
+use Rattle.edetector.specs.Lemmas.Sums.{sum_cons}
+use Rattle.edetector.proofs.Limits.{unbroken}
 use Rattle.edetector.proofs.Lists.{number_at}
-use Rattle.edetector.proofs.Limits.{each_within}
 
 -- a weight within its limits
 abbrev pub Within : ℕ → ℕ → Type 0
-Within low n = (low ≤ n) × (n ≤ 65536)
+Within low n = (low ≤ n) × (n ≤ most_weight)
 
 -- the weights of a lent slice, tested one by one
 module _ (low : ℕ) (xs : List Weight) where
@@ -30,23 +32,23 @@ module _ (low : ℕ) (xs : List Weight) where
   pub units_without : (All (λ w. Within low w.0) xs → ⊥) → weights_within low (weights_in xs) ≡ false
   units_without broken = elim (weights_within low (weights_in xs)) as (λ b. weights_within low (weights_in xs) ≡ b → b ≡ false) [ true ↦ λ e. absurd (broken (within_units e)) | false ↦ λ e. refl ] refl
 
--- the sum of the units is the total of their numbers, and small
-pub units_total : (xs : List Weight) → sum_by (λ w. w.0) xs ≡ total (weights_in xs)
-units_total [] = refl
-units_total (x ∷ xs) = sum_by-cons (λ w. w.0) x xs ∙ ap (λ n. x.0 + n) (units_total xs)
+-- the sum of the units is that of their numbers, and small
+pub units_sum : (xs : List Weight) → sum_by (λ w. w.0) xs ≡ sum (weights_in xs)
+units_sum [] = refl
+units_sum (x ∷ xs) = sum_by-cons (λ w. w.0) x xs ∙ ap (λ n. x.0 + n) (units_sum xs) ∙ sym (sum_cons x.0 (weights_in xs))
 
-pub units_light : (low : ℕ) (xs : List Weight) → length xs ≤ 16 → All (λ w. Within low w.0) xs → sum_by (λ w. w.0) xs < 4294967296
+pub units_light : (low : ℕ) (xs : List Weight) → length xs ≤ most_classes → All (λ w. Within low w.0) xs → sum_by (λ w. w.0) xs < 4294967296
 units_light low xs few all =
-    let most : sum_by (λ w. w.0) xs ≤ length xs * 65536 = sum_by-le (λ w. w.0) 65536 xs (λ k d h. (all k d h).1) in
+    let most : sum_by (λ w. w.0) xs ≤ length xs * most_weight = sum_by-le (λ w. w.0) most_weight xs (λ k d h. (all k d h).1) in
     omega (arith, most, few)
+
+pub units_unbroken : (low : ℕ) (xs : List Weight) → fewest_classes ≤ length xs → length xs ≤ most_classes → All (λ w. Within low w.0) xs → 1 ≤ sum_by (λ w. w.0) xs → sum_by (λ w. w.0) xs ≤ most_total → table_fault low (weights_in xs) ≡ None
+units_unbroken low xs some few all heavy light =
+    let long = length-map xs (λ w. w.0) in
+    let whole = units_sum xs in
+    unbroken low (weights_in xs) (omega (arith, long)) (omega (arith, long)) (λ k h. units_each low xs all k (omega (arith, h, long))) (omega arith) (omega arith)
 
 -- the weights copied to the front of an array
 module _ (ws held : List Weight) (front : take (length ws) held ≡ ws) where
   pub padded_units : take (length ws) (weights_in held) ≡ weights_in ws
   padded_units = take-map (λ w. w.0) (length ws) held ∙ ap weights_in front
-
-  pub padded_each : (low : ℕ) → All (λ w. Within low w.0) ws → (k : ℕ) → k < length ws → low ≤ slice_index (weights_in held) k
-  padded_each low all k h =
-      let here = units_each low ws all k h in
-      let same : slice_index (take (length ws) (weights_in held)) k ≡ slice_index (weights_in held) k = get_or-take (length ws) (weights_in held) k 0 h in
-      omega (arith, here.0, same, ap (λ l. slice_index l k) padded_units)

@@ -1,8 +1,8 @@
 -- What a bettor means: a null table, and a row of factors for every list of classes that may yet be learned.
 -- Every division drops its remainder.
-use Rattle.std.specs.Prelude.{◌≡◌, ℕ, ◌+◌, ◌*◌, ◌/◌, Bool, true, false, if◌then◌else◌, ◌&&◌, List, [], ◌∷◌, map, length, replicate, None, ◌==◌, nat_lt, slice_index, slice_set}
-use Rattle.std.specs.List.{zip, common_prefix_len}
-use Rattle.edetector.specs.Tables.{total, null_fault, unit_factor, IsFair}
+use Rattle.std.specs.Prelude.{◌≡◌, ℕ, ◌+◌, ◌*◌, ◌/◌, Bool, if◌then◌else◌, ◌&&◌, List, [], ◌∷◌, ◌++◌, map, length, take, sum, count_by, None, ◌==◌, nat_lt}
+use Rattle.std.specs.List.{zip, range_with_len, common_prefix_len}
+use Rattle.edetector.specs.Tables.{null_fault, unit_factor, IsFair}
 
 -- the row for the empty list is the row now
 abbrev pub Strategy : Type 0
@@ -35,43 +35,33 @@ ratio n v w a = (unit_factor * a * n) / (v * w)
 abbrev pub ratios : ℕ → ℕ → List ℕ → List ℕ → List ℕ
 ratios n v ws alts = map (λ p. ratio n v p.0 p.1) (zip ws alts)
 
--- the fixed bettor's row, whatever is learned
-abbrev pub fixed_strategy : List ℕ → List ℕ → Strategy
-fixed_strategy ws alts later = ratios (total ws) (total alts) ws alts
-
--- what an adaptive bettor has learned: how often each class, and how many in all
-pub record Tally : Type 0 where
-  pub counts : List ℕ
-  pub seen : ℕ
-
-abbrev pub no_tally : ℕ → Tally
-no_tally classes = record { counts = replicate classes 0; seen = 0 }
-
-abbrev pub one_more : Tally → ℕ → Tally
-one_more t k = record { counts = slice_set t.counts k (slice_index t.counts k + 1); seen = t.seen + 1 }
+-- a fixed bettor with an alternative table plays one row, whatever is learned
+abbrev pub fixed_meaning : List ℕ → List ℕ → Meaning
+fixed_meaning ws alts = record { nulls = ws; strategy = λ later. ratios (sum ws) (sum alts) ws alts }
 
 -- no more classes than these are tallied
 abbrev pub most_tallied : ℕ
 most_tallied = 1000000
 
--- the tally once k is learned
-abbrev pub tally_class : List ℕ → Tally → ℕ → Tally
-tally_class ws t k = if nat_lt k (length ws) && nat_lt t.seen most_tallied then one_more t k else t
+-- the classes tallied, and those that come after them, as far as they are tallied
+abbrev pub tally_with : List ℕ → List ℕ → List ℕ
+tally_with tally later = take most_tallied (tally ++ later)
 
-abbrev pub tally_all : List ℕ → Tally → List ℕ → Tally
-tally_all ws t [] = t
-tally_all ws t (k ∷ later) = tally_all ws (tally_class ws t k) later
+-- how often a class was tallied
+abbrev pub times : ℕ → List ℕ → ℕ
+times k tally = count_by (λ c. c == k) tally
 
--- the sums of weights and counts, class by class
-abbrev pub plus : List ℕ → List ℕ → List ℕ
-plus ws cs = map (λ p. p.0 + p.1) (zip ws cs)
+-- the weight of each class with how often it was tallied
+abbrev pub tallied_weights : List ℕ → List ℕ → List ℕ
+tallied_weights ws tally = map (λ p. p.0 + times p.1 tally) (zip ws (range_with_len 0 (length ws)))
 
--- the row of an adaptive bettor: its alternative is the null table with the tally added
-abbrev pub tally_row : List ℕ → Tally → List ℕ
-tally_row ws t = ratios (total ws) (total ws + t.seen) ws (plus ws t.counts)
+-- an adaptive bettor's alternative is the null table with the tally added
+abbrev pub adaptive_row : List ℕ → List ℕ → List ℕ
+adaptive_row ws tally = ratios (sum ws) (sum ws + length tally) ws (tallied_weights ws tally)
 
-abbrev pub adaptive_strategy : List ℕ → Tally → Strategy
-adaptive_strategy ws t later = tally_row ws (tally_all ws t later)
+-- an adaptive bettor that has tallied some classes
+abbrev pub adaptive_meaning : List ℕ → List ℕ → Meaning
+adaptive_meaning ws tally = record { nulls = ws; strategy = λ later. adaptive_row ws (tally_with tally later) }
 
 -- how many pairs of weights are alike, up to the first that are not
 abbrev pub pairs_alike : List ℕ → List ℕ → ℕ

@@ -1,10 +1,11 @@
 -- The calls of a monitor with their slips, what they answer, and any number of them one after the other.
 use Rattle.std.specs.Prelude.{ℕ, Bool, true, false, List, [], ◌∷◌, Ok, Err, Result, count_by}
+use Rattle.edetector.specs.declared.monitor.Reading.{Reading}
 use Rattle.edetector.specs.declared.slip.OpenSlip.{OpenSlip}
 use Rattle.edetector.specs.declared.slip.ShownSlip.{ShownSlip}
 use Rattle.edetector.specs.declared.fault.MonitorFault.{MonitorFault}
 use Rattle.edetector.specs.declared.fault.Refused.{Refused}
-use Rattle.edetector.specs.Ledger.{Terms, Standing, Outcome, Told, outcome, stake_outcome, settle_outcome, withdraw_outcome, rearm_outcome, read_outcome}
+use Rattle.edetector.specs.Ledger.{Terms, Standing, Outcome, outcome, stake_outcome, settle_outcome, withdraw_outcome, rearm_outcome, read_outcome}
 
 pub data Call : Type 0 where
   Stake : Call
@@ -19,7 +20,7 @@ pub data Answer : Type 0 where
   OfSettle : Result Bool (Refused ShownSlip) → Answer
   OfWithdraw : Result (Unit {0}) (Refused OpenSlip) → Answer
   OfRearm : Result (Unit {0}) MonitorFault → Answer
-  OfRead : Told → Answer
+  OfRead : Reading → Answer
 
 abbrev pub answer_outcome : {X : Type 0} → (X → Answer) → Outcome X → Outcome Answer
 answer_outcome of o = outcome (of o.answer) o.after

@@ -2,6 +2,7 @@
 use Rattle.std.specs.Prelude.{ℕ, ◌+◌, ◌*◌, ◌/◌, Bool, if◌then◌else◌, ◌&&◌, List, [], length, Ok, Err, Result, ◌==◌, nat_le, nat_lt, slice_index}
 use Rattle.edetector.specs.declared.state.State.{State}
 use Rattle.edetector.specs.declared.state.State.TheVariants.{Armed, Staked, Rung}
+use Rattle.edetector.specs.declared.monitor.Reading.{Reading}
 use Rattle.edetector.specs.declared.slip.OpenSlip.{OpenSlip}
 use Rattle.edetector.specs.declared.slip.ShownSlip.{ShownSlip}
 use Rattle.edetector.specs.declared.fault.MonitorFault.{MonitorFault}
@@ -10,13 +11,16 @@ use Rattle.edetector.specs.declared.fault.Refused.{Refused}
 use Rattle.edetector.specs.Tables.{class_of, unit_factor}
 use Rattle.edetector.specs.Rules.{bet}
 use Rattle.edetector.specs.States.{is_armed, is_staked, most_rounds}
-use Rattle.edetector.specs.Bettors.{Strategy, strategy_after}
+use Rattle.edetector.specs.Bettors.{Meaning, Strategy, strategy_after}
 
 -- what a monitor is made of: the null table, the restart rule's base for every wealth, and the threshold
 pub record Terms : Type 0 where
   pub nulls : List ℕ
   pub base : ℕ → ℕ
   pub threshold : ℕ
+
+abbrev pub terms : Meaning → (ℕ → ℕ) → ℕ → Terms
+terms m base threshold = record { nulls = m.nulls; base = base; threshold = threshold }
 
 -- the ledger that a monitor begins with, and again after a rearm
 abbrev pub first_ledger : Terms → ℕ
@@ -41,15 +45,15 @@ abbrev pub outcome : {X : Type 0} → X → Standing → Outcome X
 outcome a s = record { answer = a; after = s }
 
 -- a monitor just made
-abbrev pub first_standing : Terms → ℕ → Strategy → Standing
-first_standing t tag strategy = record {
+abbrev pub first_standing : Terms → ℕ → Meaning → Standing
+first_standing t tag m = record {
   tag = tag;
   state = Armed;
   ledger = first_ledger t;
   rounds = 0;
   alarms = 0;
   row = [];
-  strategy = strategy;
+  strategy = m.strategy;
 }
 
 -- the slip of the round to come, which a stake gives
@@ -113,11 +117,5 @@ rearm_outcome t s =
     if is_staked s.state then outcome (Err NotArmed) s else outcome (Ok tt) (after_rearm t s)
 
 -- Read
-pub record Told : Type 0 where
-  pub state : State
-  pub ledger : ℕ
-  pub rounds : ℕ
-  pub alarms : ℕ
-
-abbrev pub read_outcome : Terms → Standing → Outcome Told
+abbrev pub read_outcome : Terms → Standing → Outcome Reading
 read_outcome t s = outcome (record { state = s.state; ledger = s.ledger; rounds = s.rounds; alarms = s.alarms }) s

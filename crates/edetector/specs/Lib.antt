@@ -2,9 +2,11 @@ pub mod Bettors
 pub mod Calls
 pub mod Examples
 pub mod Faults
+pub mod FixedTables
 pub mod Ledger
-pub mod Pairs
+pub mod Lemmas
 pub mod Phases
+pub mod Places
 pub mod Plans
 pub mod Rules
 pub mod Slips
@@ -13,10 +15,3 @@ pub mod Tables
 pub mod Tallies
 pub mod Units
 pub mod View
-pub mod Weights
-pub mod Mixing
-pub mod Sums
-pub mod Held
-pub mod Tallying
-pub mod Adapting
-pub mod Fixing

@@ -4,9 +4,9 @@ use Rattle.std.specs.List.{flat_map, range_with_len}
 use Rattle.edetector.specs.declared.slip.ShownSlip.{ShownSlip}
 use Rattle.edetector.specs.declared.fault.Refused.{Refused}
 use Rattle.edetector.specs.States.{is_staked}
-use Rattle.edetector.specs.Bettors.{Strategy}
+use Rattle.edetector.specs.Bettors.{Meaning}
 use Rattle.edetector.specs.Slips.{shown_slip}
-use Rattle.edetector.specs.Ledger.{Terms, Standing, Outcome, first_standing, next_slip, is_fitting, settle_outcome}
+use Rattle.edetector.specs.Ledger.{Terms, Standing, Outcome, terms, first_standing, next_slip, is_fitting, settle_outcome}
 use Rattle.edetector.specs.Calls.{Call, Stake, Settle, Withdraw, Rearm, Read, Answer, call_outcome, calls_outcome, rounds_in, alarms_in}
 
 -- the calls made before the next settlement, for every list of classes settled so far
@@ -55,18 +55,19 @@ weight_of _ _ = 1
 abbrev pub weighted : ℕ → List (List ℕ) → (List ℕ → ℕ) → ℕ
 weighted n tables f = sum_by (λ classes. weight_of tables classes * f classes) (sequences n (length tables))
 
--- the sum over all sequences of h classes that the null table weighs, of what f counts in the run of a monitor just made
-abbrev pub weighted_runs : (List Answer → ℕ) → Terms → ℕ → Strategy → Plan → ℕ → ℕ
-weighted_runs f t tag strategy plan h =
-    weighted (length t.nulls) (replicate h t.nulls) (λ classes. f (run t plan (first_standing t tag strategy) classes))
+-- the sum, over all sequences of h classes, of the null table's weight × what f counts in the plan's run from s
+abbrev pub weighted_runs : (List Answer → ℕ) → Terms → Standing → Plan → ℕ → ℕ
+weighted_runs f t s plan h = weighted (length t.nulls) (replicate h t.nulls) (λ classes. f (run t plan s classes))
 
-abbrev pub weighted_alarms : Terms → ℕ → Strategy → Plan → ℕ → ℕ
+abbrev pub weighted_alarms : Terms → Standing → Plan → ℕ → ℕ
 weighted_alarms = weighted_runs alarms_in
 
-abbrev pub weighted_rounds : Terms → ℕ → Strategy → Plan → ℕ → ℕ
+abbrev pub weighted_rounds : Terms → Standing → Plan → ℕ → ℕ
 weighted_rounds = weighted_runs rounds_in
 
 -- the bound, of a monitor just made: for every horizon and plan, threshold × weighted alarms ≤ weighted settled rounds
-abbrev pub Bound : Terms → ℕ → Strategy → Type 0
-Bound t tag strategy =
-    (h : ℕ) (plan : Plan) → t.threshold * weighted_alarms t tag strategy plan h ≤ weighted_rounds t tag strategy plan h
+abbrev pub Bound : Meaning → (ℕ → ℕ) → ℕ → ℕ → Type 0
+Bound m base threshold tag = (h : ℕ) (plan : Plan) →
+    let t = terms m base threshold in
+    let s = first_standing t tag m in
+    threshold * weighted_alarms t s plan h ≤ weighted_rounds t s plan h

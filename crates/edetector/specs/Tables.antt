@@ -1,29 +1,38 @@
 -- Tables of class weights, and rows of factors that are fair against one.
-use Rattle.std.specs.Prelude.{ℕ, suc, ◌+◌, ◌-◌, ◌*◌, ◌≤◌, min, Bool, not, if◌then◌else◌, ◌&&◌, List, [], ◌∷◌, length, Some, None, Option, nat_le, slice_index}
-use Rattle.std.specs.List.{list_all}
+use Rattle.std.specs.Prelude.{ℕ, ◌-◌, ◌*◌, ◌≤◌, min, Bool, not, if◌then◌else◌, ◌&&◌, List, length, sum, sum_by, Some, None, Option, Ok, Err, Result, nat_le}
+use Rattle.std.specs.List.{list_all, zip}
 use Rattle.edetector.specs.declared.value.ValueFault.{ValueFault}
 use Rattle.edetector.specs.declared.value.ValueFault.TheVariants.{Classes, Weight, Total}
 
--- the total of all weights
-abbrev pub total : List ℕ → ℕ
-total [] = 0
-total (w ∷ ws) = w + total ws
+-- how many classes a table has
+abbrev pub fewest_classes : ℕ
+fewest_classes = 2
+
+abbrev pub most_classes : ℕ
+most_classes = 16
+
+-- the heaviest weight, and the heaviest total
+abbrev pub most_weight : ℕ
+most_weight = 65536
+
+abbrev pub most_total : ℕ
+most_total = 65536
 
 -- n lies from low to high, both counted
 abbrev pub from_to : ℕ → ℕ → ℕ → Bool
 from_to low high n = nat_le low n && nat_le n high
 
--- every weight lies from low to 65,536
+-- every weight lies from low to the heaviest
 abbrev pub weights_within : ℕ → List ℕ → Bool
-weights_within low ws = list_all (from_to low 65536) ws
+weights_within low ws = list_all (from_to low most_weight) ws
 
 -- the first limit that a table breaks whose weights are to be at least low:
--- 2 to 16 classes, then each weight, then the total from 1 to 65,536
+-- the number of classes, then each weight, then the total
 abbrev pub table_fault : ℕ → List ℕ → Option ValueFault
 table_fault low ws =
-    if not (from_to 2 16 (length ws)) then Some Classes
+    if not (from_to fewest_classes most_classes (length ws)) then Some Classes
     else if not (weights_within low ws) then Some Weight
-    else if not (from_to 1 65536 (total ws)) then Some Total
+    else if not (from_to 1 most_total (sum ws)) then Some Total
     else None
 
 -- in a null table no weight is 0; in an alternative table a weight may be
@@ -33,23 +42,23 @@ null_fault ws = table_fault 1 ws
 abbrev pub alternative_fault : List ℕ → Option ValueFault
 alternative_fault ws = table_fault 0 ws
 
+-- a value, unless there is a fault
+abbrev pub unless_fault : {X : Type 0} → Option ValueFault → X → Result X ValueFault
+unless_fault None x = Ok x
+unless_fault (Some fault) x = Err fault
+
 -- the class of a count, out of so many classes: the count's own number, or the last class
 abbrev pub class_of : ℕ → ℕ → ℕ
 class_of classes count = min count (classes - 1)
-
--- the sum of all w_k × f k, where ws has the weights of the classes from i on
-abbrev pub weigh : List ℕ → ℕ → (ℕ → ℕ) → ℕ
-weigh [] i f = 0
-weigh (w ∷ ws) i f = w * f i + weigh ws (suc i) f
 
 -- the factor that leaves a bet as it is: factors are in parts of it
 abbrev pub unit_factor : ℕ
 unit_factor = 4096
 
--- no factor of a fair row is larger, whatever the table: the total of the weights is at most 65,536, and each is at least 1
-abbrev pub most_factor : ℕ
-most_factor = unit_factor * 65536
-
--- a row is fair against a table: the sum of all w_k × e_k is at most 4,096 × the total weight
+-- a row is fair against a table: the sum of all weight × factor is at most 4,096 × the total weight
 abbrev pub IsFair : List ℕ → List ℕ → Type 0
-IsFair ws row = weigh ws 0 (λ k. slice_index row k) ≤ unit_factor * total ws
+IsFair ws row = sum_by (λ p. p.0 * p.1) (zip ws row) ≤ unit_factor * sum ws
+
+-- no factor of a fair row is larger, since each weight is at least 1
+abbrev pub most_factor : ℕ
+most_factor = unit_factor * most_total

@@ -2,17 +2,13 @@
 use Rattle.std.specs.Prelude.{◌≡◌, ℕ, if◌then◌else◌, List, [], ◌∷◌, Ok, Err, Result}
 use Rattle.edetector.specs.declared.state.State.{State}
 use Rattle.edetector.specs.declared.monitor.Monitor.{Monitor}
-use Rattle.edetector.specs.declared.monitor.Reading.{Reading}
 use Rattle.edetector.specs.declared.fault.Unmade.{Unmade}
 use Rattle.edetector.specs.declared.value.ValueFault.TheVariants.{Threshold}
 use Rattle.edetector.specs.Phases.{state_of, row_in}
 use Rattle.edetector.specs.Tables.{from_to}
 use Rattle.edetector.specs.Bettors.{Strategy, Meaning}
-use Rattle.edetector.specs.Ledger.{Terms, Standing, Told, outcome, first_standing, stake_outcome, settle_outcome, withdraw_outcome, rearm_outcome, read_outcome}
+use Rattle.edetector.specs.Ledger.{Terms, Standing, terms, outcome, first_standing, stake_outcome, settle_outcome, withdraw_outcome, rearm_outcome, read_outcome}
 use Rattle.edetector.specs.Calls.{Call, Stake, Settle, Withdraw, Rearm, Read, Answer, OfStake, OfSettle, OfWithdraw, OfRearm, OfRead, calls_outcome}
-
-abbrev pub terms : List ℕ → (ℕ → ℕ) → ℕ → Terms
-terms ws base threshold = record { nulls = ws; base = base; threshold = threshold }
 
 abbrev pub standing : ℕ → State → ℕ → ℕ → ℕ → List ℕ → Strategy → Standing
 standing tag state ledger rounds alarms row strategy = record {
@@ -33,15 +29,12 @@ rule_of m = m.rule
 
 -- what a monitor is made of
 abbrev pub terms_of : {B R : Type 0} → (B → Meaning) → (R → ℕ → ℕ) → Monitor B R → Terms
-terms_of meaning base m = terms (meaning m.bettor).nulls (base m.rule) m.threshold
+terms_of meaning base m = terms (meaning m.bettor) (base m.rule) m.threshold
 
 -- where it stands
 abbrev pub view : {B R : Type 0} → (B → Meaning) → Monitor B R → Standing
 view meaning m =
-    standing m.tag (state_of m.phase) m.ledger.parts m.rounds m.alarms (row_in m.phase (meaning m.bettor).nulls) (meaning m.bettor).strategy
-
-abbrev pub told_by : Reading → Told
-told_by r = record { state = r.state; ledger = r.ledger.parts; rounds = r.rounds; alarms = r.alarms }
+    standing m.tag (state_of m.phase) m.ledger m.rounds m.alarms (row_in m.phase (meaning m.bettor).nulls) (meaning m.bettor).strategy
 
 -- a monitor as its maker sees it
 pub record Seen (B R : Type 0) : Type 0 where
@@ -56,8 +49,8 @@ seen meaning base m = record { terms = terms_of meaning base m; standing = view 
 -- a monitor just made, or what was handed over, handed back where the threshold is not 1 to 4,096
 abbrev pub new_monitor : {B R : Type 0} → (B → Meaning) → (R → ℕ → ℕ) → B → R → ℕ → ℕ → Result (Seen B R) (Unmade B R)
 new_monitor meaning base bettor rule threshold tag =
-    let t = terms (meaning bettor).nulls (base rule) threshold in
-    if from_to 1 4096 threshold then Ok (record { terms = t; standing = first_standing t tag (meaning bettor).strategy; bettor = bettor; rule = rule })
+    let t = terms (meaning bettor) (base rule) threshold in
+    if from_to 1 4096 threshold then Ok (record { terms = t; standing = first_standing t tag (meaning bettor); bettor = bettor; rule = rule })
     else Err (record { fault = Threshold; bettor = bettor; rule = rule })
 
 -- what the contract of each call says: what it answers and leaves are those of the call on plain data

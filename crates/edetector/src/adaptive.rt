@@ -1,6 +1,6 @@
 // The adaptive bettor: its alternative is the null table with what it has learned added, up to a million classes.
-ghost use Rattle.std.specs.Prelude.{◌≡◌, ◌≤◌, length, take};
-ghost use Rattle.edetector.specs.Tables.{total};
+ghost use Rattle.std.specs.Prelude.{◌≡◌, ◌≤◌, length, take, sum, None};
+ghost use Rattle.edetector.specs.Tables.{null_fault, most_classes};
 ghost use Rattle.edetector.specs.Bettors.{most_tallied};
 
 use super::table::NullTable;
@@ -13,8 +13,9 @@ pub mod plays;
 pub struct Adaptive {
     pub(super) null: NullTable,
     pub(super) counts: [u32; 16],
-    pub(super) seen: u32,
-    ghost room: { length counts ≡ 16 },
-    ghost tallies: { total (take null.classes counts) ≡ seen },
-    ghost capped: { seen ≤ most_tallied },
+    pub(super) tallied: u32,
+    ghost null_unbroken: { null_fault null ≡ None },
+    ghost room: { length counts ≡ most_classes },
+    ghost counted: { sum (take (length null) counts) ≡ tallied },
+    ghost within: { tallied ≤ most_tallied },
 }

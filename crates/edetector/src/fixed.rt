@@ -1,8 +1,8 @@
 // The fixed bettor: it plays the likelihood ratios of one alternative, whatever it learns.
-ghost use Rattle.std.specs.Prelude.{◌≡◌, []};
+ghost use Rattle.std.specs.Prelude.{◌≡◌, [], length, None};
 ghost use Rattle.edetector.specs.Units.{factors_in, padded};
-ghost use Rattle.edetector.specs.Bettors.{fixed_strategy};
-ghost use Rattle.edetector.specs.Weights.{null_weights, alternative_weights};
+ghost use Rattle.edetector.specs.Bettors.{fixed_meaning};
+ghost use Rattle.edetector.specs.Tables.{null_fault, alternative_fault};
 
 use super::table::{AlternativeTable, NullTable};
 use super::units::Row;
@@ -15,6 +15,8 @@ pub struct Fixed {
     pub(super) null: NullTable,
     pub(super) alternative: AlternativeTable,
     pub(super) row: Row,
-    ghost same_classes: { alternative.classes ≡ null.classes },
-    ghost played: { factors_in row ≡ padded (fixed_strategy (null_weights null) (alternative_weights alternative) []) },
+    ghost null_unbroken: { null_fault null ≡ None },
+    ghost alternative_unbroken: { alternative_fault alternative ≡ None },
+    ghost same_classes: { length alternative ≡ length null },
+    ghost played: { factors_in row ≡ padded ((fixed_meaning null alternative).strategy []) },
 }

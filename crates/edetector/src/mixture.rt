@@ -3,7 +3,7 @@ ghost use Rattle.std.specs.Prelude.{◌≡◌, ◌+◌, ◌/◌, ◌<◌, ◌≤
 ghost use Rattle.edetector.specs.declared.value.ValueFault.TheVariants.{NullTables};
 ghost use Rattle.edetector.specs.Units.{factors_in};
 ghost use Rattle.edetector.specs.Bettors.{meaning_after, averages, mixture, same_table};
-ghost use Rattle.edetector.specs.Mixing.{mixture_law};
+ghost use Rattle.edetector.specs.Lemmas.Mixtures.{mixture_law};
 
 use super::bettor::Bettor;
 use super::units::{Factor, Row, Weight};

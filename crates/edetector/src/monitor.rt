@@ -23,7 +23,7 @@ pub struct Monitor<B, R> {
     alarms: u32,
     ghost least: { 1 ≤ threshold },
     ghost most: { threshold ≤ 4096 },
-    ghost rung_by_ledger: { agrees_with_ledger (state_of phase) (threshold * bet) ledger.parts ≡ true },
+    ghost rung_by_ledger: { agrees_with_ledger (state_of phase) (threshold * bet) ledger ≡ true },
     ghost fewer: { alarms ≤ rounds },
     ghost rounds_left: { has_rounds_left (state_of phase) rounds ≡ true },
 }

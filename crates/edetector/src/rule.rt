@@ -9,7 +9,7 @@ pub trait RestartRule {
     ghost base: { Self → ℕ → ℕ };
 
     fn restart(&self, wealth: Wealth) -> Base
-        ensures { result.0 ≡ base self.now wealth.parts };
+        ensures { result.0 ≡ base self.now wealth };
 
     ghost law: { (r : Self) → IsRestartRule (base r) };
 }

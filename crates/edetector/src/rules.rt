@@ -11,7 +11,7 @@ use super::wealth::{BET, Wealth};
 const BEGIN_LIMIT: u64 = 4294967296;
 
 fn base_for(wealth: Wealth, begun: u64) -> Base
-    ensures { result.0 ≡ base_for wealth.parts begun }
+    ensures { result.0 ≡ base_for wealth begun }
 {
     if wealth.parts > BEGIN_LIMIT {
         Base(wealth.parts)

@@ -1,33 +1,54 @@
 // Tables of class weights.
-ghost use Rattle.std.specs.Prelude.{◌≡◌, ℕ, ◌<◌, ◌≤◌, ◌-◌, length, take, drop, replicate, slice_index};
-ghost use Rattle.edetector.specs.Units.{weights_in};
-ghost use Rattle.edetector.specs.Tables.{total};
-
 use super::units::Weight;
+use std::marker::Model;
 
 pub mod make;
 pub mod reads;
 
-// The weights of 2 to 16 classes, none below `LEAST`, with their total.
-//
+/// The fewest classes of a table.
+pub const FEWEST_CLASSES: usize = 2;
+
+/// The most classes of a table.
+pub const MOST_CLASSES: usize = 16;
+
+/// The largest weight of a class.
+pub const MOST_WEIGHT: u32 = 65536;
+
+/// The largest total of all weights.
+pub const MOST_TOTAL: u32 = 65536;
+
+/// The weights of 2 to 16 classes, none below `LEAST`. A contract sees the list of them, as numbers.
 // A fixed array with its length beside it, since a table is copied as a plain value and nothing here takes memory.
 #[derive(Clone, Copy, Debug, PartialEq, Eq)]
 pub struct Table<const LEAST: u32> {
-    pub(super) classes: usize,
-    pub(super) weights: [Weight; 16],
-    pub(super) whole: u32,
-    ghost some: { 2 ≤ classes },
-    ghost few: { classes ≤ 16 },
-    ghost room: { length weights ≡ 16 },
-    ghost behind: { drop classes weights ≡ replicate (16 - classes) (record { 0 = 0 }) },
-    ghost sums: { total (take classes (weights_in weights)) ≡ whole },
-    ghost heavy: { 1 ≤ whole },
-    ghost light: { whole ≤ 65536 },
-    ghost each: { (k : ℕ) → k < classes → LEAST ≤ slice_index (weights_in weights) k },
+    classes: usize,
+    weights: [Weight; 16],
+    total: u32,
 }
 
-// How often each class comes on a sound line. No weight is 0.
+impl<const LEAST: u32> Model for Table<LEAST> {
+    ghost use Rattle.std.specs.Prelude.{ℕ, List, length, sum, take};
+    ghost use Rattle.edetector.specs.Units.{weights_in};
+    ghost use Rattle.edetector.specs.Places.{IsTable, places_for};
+    ghost use Rattle.edetector.specs.Lemmas.Places.{held_long, held_back};
+
+    ghost Value = { List ℕ };
+
+    ghost view = { λ t. take t.classes (weights_in t.weights) };
+
+    ghost invariant = { λ t. IsTable LEAST t.classes t.weights t.total };
+
+    ghost inverse = { λ ws. record { classes = length ws; weights = places_for ws; total = sum ws } };
+
+    ghost inverse_ok = { λ t h i. record {
+      classes = held_long LEAST t.classes t.weights t.total h i;
+      weights = held_back LEAST t.classes t.weights t.total h i;
+      total = h.sums i;
+    } };
+}
+
+/// How often each class comes on a sound line. No weight is 0.
 pub type NullTable = Table<1>;
 
-// How often each class would come on a worn line.
+/// How often each class would come on a worn line.
 pub type AlternativeTable = Table<0>;

@@ -1,6 +1,8 @@
 // A wealth, in parts of a bet: from 0 to 2^49.
-ghost use Rattle.std.specs.Prelude.{◌≡◌, ◌<◌, ◌≤◌, MatchOption};
+ghost use Rattle.std.specs.Prelude.{◌≡◌, ℕ, ◌≤◌, if◌then◌else◌, Some, None, nat_le};
 ghost use Rattle.edetector.specs.Rules.{most_parts};
+
+use std::marker::Model;
 
 // One bet, in parts.
 pub const BET: u64 = 1048576;
@@ -8,16 +10,26 @@ pub const BET: u64 = 1048576;
 // The most parts.
 const MOST_PARTS: u64 = 562949953421312;
 
+// A contract sees the number of its parts.
 #[derive(Clone, Copy, Debug, PartialEq, Eq)]
 pub struct Wealth {
     pub(super) parts: u64,
-    ghost within: { parts ≤ most_parts },
+}
+
+impl Model for Wealth {
+    ghost Value = { ℕ };
+
+    ghost view = { λ wealth. wealth.parts };
+
+    ghost invariant = { λ wealth. wealth.parts ≤ most_parts };
+
+    ghost inverse = { λ parts. record { parts = parts } };
 }
 
 impl Wealth {
     // The wealth of so many parts, if there can be one.
     pub fn new(parts: u64) -> Option<Wealth>
-        ensures { MatchOption result (most_parts < parts) (λ w. w.parts ≡ parts) }
+        ensures { result ≡ (if nat_le parts most_parts then Some parts else None) }
     {
         if parts <= MOST_PARTS {
             Some(Wealth { parts })
@@ -27,15 +39,14 @@ impl Wealth {
     }
 
     pub fn parts(self) -> u64
-        ensures { result ≡ self.parts }
+        ensures { result ≡ self }
     {
         self.parts
     }
 }
 
-// No derive makes a value beside a ghost field.
 impl Default for Wealth {
-    ghost is_default = { λ w. w.parts ≡ 0 };
+    ghost is_default = { λ wealth. wealth ≡ 0 };
 
     fn default() -> Self {
         Wealth { parts: 0 }

@@ -1,10 +1,8 @@
 // How the adaptive bettor is made, what it plays and how it learns.
-ghost use Rattle.std.specs.Prelude.{◌≡◌, length};
-ghost use Rattle.edetector.specs.Bettors.{adaptive_strategy, no_tally, tally_class};
-ghost use Rattle.edetector.specs.Tallies.{tally_of};
-ghost use Rattle.edetector.specs.Weights.{null_weights};
-ghost use Rattle.edetector.specs.Held.{null_unbroken};
-ghost use Rattle.edetector.specs.Tallying.{tally_long, tally_fair};
+ghost use Rattle.std.specs.Prelude.{◌≡◌, ◌≤◌, [], length};
+ghost use Rattle.edetector.specs.Bettors.{most_tallied, adaptive_meaning};
+ghost use Rattle.edetector.specs.Tallies.{null_of, tally_of, tally_after, SameCounts};
+ghost use Rattle.edetector.specs.Lemmas.Tallies.{adaptive_law};
 
 use super::super::bettor::Bettor;
 use super::super::ratio::likelihood_ratio;
@@ -16,26 +14,25 @@ use super::Adaptive;
 const MOST_TALLIED: u32 = 1000000;
 
 impl Adaptive {
-    // A bettor that has learned nothing.
+    /// A bettor that has learned nothing.
     pub fn new(null: NullTable) -> Adaptive
-        ensures table { result.null ≡ null }
-        ensures fresh { tally_of result ≡ no_tally (length (null_weights null)) }
+        ensures table { null_of result ≡ null }
+        ensures tally { tally_of result ≡ [] }
     {
+        // a table tells with its classes that it breaks no limit
+        let _ = null.classes();
         Adaptive {
             null,
             counts: [0; 16],
-            seen: 0,
+            tallied: 0,
         }
     }
 }
 
 impl Bettor for Adaptive {
-    ghost meaning = { λ b. record { nulls = null_weights b.null; strategy = adaptive_strategy (null_weights b.null) (tally_of b) } };
+    ghost meaning = { λ b. adaptive_meaning b.null (tally_of b) };
 
-    ghost law = { λ b. record {
-        table = null_unbroken b.null;
-        factors = λ later. tally_long b later;
-        fair = λ later. tally_fair b later } };
+    ghost law = { λ b. adaptive_law b.null (tally_of b) b.null_unbroken };
 
     fn classes(&self) -> usize {
         self.null.classes()
@@ -46,24 +43,27 @@ impl Bettor for Adaptive {
     }
 
     fn factor(&self, class: usize) -> Factor {
-        if class >= self.null.classes {
+        if class >= self.null.classes() {
             return Factor(0);
         }
-        let w = self.null.weights[class];
+        let w = self.null.weight(class);
         let a = Weight(w.0 + self.counts[class]);
-        let whole = self.null.whole;
-        likelihood_ratio(whole, whole + self.seen, w, a)
+        let total = self.null.total();
+        likelihood_ratio(total, total + self.tallied, w, a)
     }
 
-    // A tally that stays leaves all else as it was.
+    // Once a million classes are tallied, nothing changes any more.
     fn learn(&mut self, class: usize)
-        ensures table { self.new.null ≡ self.old.null }
-        ensures tally { tally_of self.new ≡ tally_class (null_weights self.old.null) (tally_of self.old) class }
-        ensures same { tally_class (null_weights self.old.null) (tally_of self.old) class ≡ tally_of self.old → self.new ≡ self.old }
+        ensures table { null_of self.new ≡ null_of self.old }
+        ensures tally {
+            let tally = tally_after (length (null_of self.old)) (tally_of self.old) class in
+            SameCounts (tally_of self.new) tally }
+        ensures none { length (null_of self.old) ≤ class → self.new ≡ self.old }
+        ensures full { most_tallied ≤ length (tally_of self.old) → self.new ≡ self.old }
     {
-        if class < self.null.classes && self.seen < MOST_TALLIED {
+        if class < self.null.classes() && self.tallied < MOST_TALLIED {
             self.counts[class] += 1;
-            self.seen += 1;
+            self.tallied += 1;
         }
     }
 }

@@ -1,11 +1,11 @@
 // How the fixed bettor is made, and what it plays.
-ghost use Rattle.std.specs.Prelude.{◌≡◌, [], slice_index};
+ghost use Rattle.std.specs.Prelude.{◌≡◌, [], length, None, slice_index};
+ghost use Rattle.std.specs.Result.{result_map_both};
 ghost use Rattle.edetector.specs.Units.{factors_in, padded};
-ghost use Rattle.edetector.specs.Bettors.{fixed_strategy};
-ghost use Rattle.edetector.specs.Pairs.{Paired};
-ghost use Rattle.edetector.specs.Weights.{null_weights, alternative_weights};
-ghost use Rattle.edetector.specs.Held.{null_unbroken};
-ghost use Rattle.edetector.specs.Fixing.{fixed_long, fixed_fair};
+ghost use Rattle.edetector.specs.Bettors.{fixed_meaning};
+ghost use Rattle.edetector.specs.FixedTables.{tables_of, new_fixed};
+ghost use Rattle.edetector.specs.Tables.{null_fault, alternative_fault};
+ghost use Rattle.edetector.specs.Lemmas.Ratios.{fixed_law};
 
 use super::super::bettor::Bettor;
 use super::super::ratio::likelihood_ratio;
@@ -17,30 +17,35 @@ use std::array;
 
 // The likelihood ratio of a class, or 0 past the last.
 fn ratio_at(null: &NullTable, alternative: &AlternativeTable, class: usize) -> Factor
-    requires { alternative.now.classes ≡ null.now.classes }
-    ensures { result.0 ≡ slice_index (fixed_strategy (null_weights null.now) (alternative_weights alternative.now) []) class }
+    requires null { null_fault null.now ≡ None }
+    requires alternative { alternative_fault alternative.now ≡ None }
+    requires same_classes { length alternative.now ≡ length null.now }
+    ensures { result.0 ≡ slice_index ((fixed_meaning null.now alternative.now).strategy []) class }
 {
-    if class >= null.classes {
+    if class >= null.classes() {
         return Factor(0);
     }
-    let w = null.weights[class];
-    let a = alternative.weights[class];
-    likelihood_ratio(null.whole, alternative.whole, w, a)
+    let w = null.weight(class);
+    let a = alternative.weight(class);
+    likelihood_ratio(null.total(), alternative.total(), w, a)
 }
 
 // The likelihood ratios of all classes, with zeros behind them.
 fn ratios_of(null: &NullTable, alternative: &AlternativeTable) -> Row
-    requires { alternative.now.classes ≡ null.now.classes }
-    ensures { factors_in result ≡ padded (fixed_strategy (null_weights null.now) (alternative_weights alternative.now) []) }
+    requires null { null_fault null.now ≡ None }
+    requires alternative { alternative_fault alternative.now ≡ None }
+    requires same_classes { length alternative.now ≡ length null.now }
+    ensures { factors_in result ≡ padded ((fixed_meaning null.now alternative.now).strategy []) }
 {
     array::from_fn(|k| ratio_at(null, alternative, k))
 }
 
 impl Fixed {
+    /// Both tables must have the same number of classes.
     pub fn new(null: NullTable, alternative: AlternativeTable) -> Result<Fixed, ValueFault>
-        ensures { Paired null alternative result }
+        ensures { result_map_both tables_of (λ e. e) result ≡ new_fixed null alternative }
     {
-        if alternative.classes != null.classes {
+        if alternative.classes() != null.classes() {
             return Err(ValueFault::Alternative);
         }
         let row = ratios_of(&null, &alternative);
@@ -53,12 +58,9 @@ impl Fixed {
 }
 
 impl Bettor for Fixed {
-    ghost meaning = { λ b. record { nulls = null_weights b.null; strategy = fixed_strategy (null_weights b.null) (alternative_weights b.alternative) } };
+    ghost meaning = { λ b. fixed_meaning b.null b.alternative };
 
-    ghost law = { λ b. record {
-        table = null_unbroken b.null;
-        factors = λ later. fixed_long b.null b.alternative b.same_classes;
-        fair = λ later. fixed_fair b.null b.alternative b.same_classes } };
+    ghost law = { λ b. fixed_law b.null b.alternative b.null_unbroken b.alternative_unbroken b.same_classes };
 
     fn classes(&self) -> usize {
         self.null.classes()

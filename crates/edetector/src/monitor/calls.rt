@@ -6,7 +6,7 @@ ghost use Rattle.edetector.specs.Plans.{Bound};
 ghost use Rattle.edetector.specs.Rules.{bet};
 ghost use Rattle.edetector.specs.Tables.{unit_factor, most_factor};
 ghost use Rattle.std.specs.Result.{result_map_both};
-ghost use Rattle.edetector.specs.View.{view, terms, terms_of, bettor_of, rule_of, told_by, seen, new_monitor, AfterCalls};
+ghost use Rattle.edetector.specs.View.{view, terms_of, bettor_of, rule_of, seen, new_monitor, AfterCalls};
 
 use super::super::bettor::Bettor;
 use super::super::fault::{MonitorFault, Refused, Unmade};
@@ -26,7 +26,7 @@ const MOST_ROUNDS: u32 = 1000000;
 fn ledger_after(base: Base, factor: Factor) -> Wealth
     requires low { base.0 ≤ 4097 * bet }
     requires small { factor.0 ≤ most_factor }
-    ensures { result.parts ≡ (base.0 * factor.0) / unit_factor }
+    ensures { result ≡ (base.0 * factor.0) / unit_factor }
 {
     Wealth {
         parts: base.0 * u64::from(factor.0) / 4096,
@@ -40,8 +40,7 @@ impl<B: Bettor, R: RestartRule> Monitor<B, R> {
             result_map_both (seen B.meaning R.base) (λ e. e) result
             ≡ new_monitor B.meaning R.base bettor rule threshold tag }
         ensures calls { AfterCalls B.meaning R.base }
-        ensures bound {
-            let m = B.meaning bettor in Bound (terms m.nulls (R.base rule) threshold) tag m.strategy }
+        ensures bound { Bound (B.meaning bettor) (R.base rule) threshold tag }
     {
         if !(1..=4096).contains(&threshold) {
             return Err(Unmade {
@@ -106,7 +105,7 @@ impl<B: Bettor, R: RestartRule> Monitor<B, R> {
         self.ledger = ledger_after(self.rule.restart(self.ledger), factor);
         self.bettor.learn(k);
         self.rounds += 1;
-        let rang = self.ledger.parts >= u64::from(self.threshold) * BET;
+        let rang = self.ledger.parts() >= u64::from(self.threshold) * BET;
         if rang {
             self.alarms += 1;
             self.phase = Phase::Rung;
@@ -153,7 +152,7 @@ impl<B: Bettor, R: RestartRule> Monitor<B, R> {
 
     pub fn read(&self) -> Reading
         ensures {
-            outcome (told_by result) (view B.meaning self.now)
+            outcome result (view B.meaning self.now)
             ≡ read_outcome (terms_of B.meaning R.base self.now) (view B.meaning self.now) }
     {
         Reading {

@@ -1,18 +1,17 @@
 // Tables made of what a host hands over, or refused.
 ghost use Rattle.std.specs.Prelude.{◌≡◌, ◌^◌, ◌<◌, ◌≤◌, ◌↔◌, ◌-◌, All, IsTrue, length, sum_by, take, drop, replicate};
 ghost use Rattle.edetector.specs.Units.{weights_in};
-ghost use Rattle.edetector.specs.Tables.{table_fault};
-ghost use Rattle.edetector.specs.Weights.{MadeOf, held_weights};
+ghost use Rattle.edetector.specs.Tables.{table_fault, unless_fault, most_classes, most_weight};
 
 use super::super::units::Weight;
 use super::super::value::ValueFault;
-use super::Table;
+use super::{FEWEST_CLASSES, MOST_CLASSES, MOST_TOTAL, MOST_WEIGHT, Table};
 
-// Whether every weight lies from `least` to 65,536.
+// Whether every weight lies from `least` to the largest.
 fn all_within(weights: &[Weight], least: u32) -> bool
-    ensures { IsTrue result ↔ All (λ w. (least ≤ w.0) × (w.0 ≤ 65536)) weights.now }
+    ensures { IsTrue result ↔ All (λ w. (least ≤ w.0) × (w.0 ≤ most_weight)) weights.now }
 {
-    weights.iter().all(|w| (least..=65536).contains(&w.0))
+    weights.iter().all(|w| (least..=MOST_WEIGHT).contains(&w.0))
 }
 
 fn total_of(weights: &[Weight]) -> u32
@@ -24,10 +23,10 @@ fn total_of(weights: &[Weight]) -> u32
 
 // The weights with zeros behind them.
 fn padded(weights: &[Weight]) -> [Weight; 16]
-    requires { length weights.now ≤ 16 }
+    requires { length weights.now ≤ most_classes }
     ensures front { take (length weights.now) result ≡ weights.now }
-    ensures behind { drop (length weights.now) result ≡ replicate (16 - length weights.now) (record { 0 = 0 }) }
-    ensures room { length result ≡ 16 }
+    ensures behind { drop (length weights.now) result ≡ replicate (most_classes - length weights.now) (record { 0 = 0 }) }
+    ensures room { length result ≡ most_classes }
 {
     let mut held = [Weight(0); 16];
     held[..weights.len()].copy_from_slice(weights);
@@ -36,21 +35,21 @@ fn padded(weights: &[Weight]) -> [Weight; 16]
 
 impl<const LEAST: u32> Table<LEAST> {
     pub fn new(weights: &[Weight]) -> Result<Self, ValueFault>
-        ensures { MadeOf held_weights (weights_in weights.now) (table_fault LEAST (weights_in weights.now)) result }
+        ensures { let ws = weights_in weights.now in result ≡ unless_fault (table_fault LEAST ws) ws }
     {
-        let classes @ 2..=16 = weights.len() else {
+        let classes @ FEWEST_CLASSES..=MOST_CLASSES = weights.len() else {
             return Err(ValueFault::Classes);
         };
         if !all_within(weights, LEAST) {
             return Err(ValueFault::Weight);
         }
-        let whole @ 1..=65536 = total_of(weights) else {
+        let total @ 1..=MOST_TOTAL = total_of(weights) else {
             return Err(ValueFault::Total);
         };
         Ok(Table {
             classes,
             weights: padded(weights),
-            whole,
+            total,
         })
     }
 }

@@ -3,7 +3,7 @@ use Rattle.std.proofs.Common.{◌≡◌, ◌+◌, ◌/◌, length, get_or, refl,
 use Rattle.std.proofs.lemmas.List.{length-map, ext_get_or}
 use Rattle.edetector.specs.Units.{factors_in}
 use Rattle.edetector.specs.Bettors.{averages}
-use Rattle.edetector.specs.Mixing.{averages_at, averages_long}
+use Rattle.edetector.specs.Lemmas.Mixtures.{averages_at, averages_long}
 use Rattle.edetector.proofs.Copying.{factor_at}
 use Rattle.edetector.proofs.FromFn.{made_each}
 use Rattle.edetector.proofs.mixture.averaged.Goals as goal

@@ -1,7 +1,7 @@
 use Rattle.std.proofs.Common.{cond, [], sym, ◌∙◌, ap, ap₂}
 use Rattle.edetector.specs.Bettors.{averages}
 use Rattle.edetector.specs.Units.{padded}
-use Rattle.edetector.specs.Mixing.{level}
+use Rattle.edetector.specs.Lemmas.Mixtures.{level}
 use Rattle.edetector.proofs.Copying.{padded_averages}
 use Rattle.edetector.proofs.mixture.MixtureBettor.row.Goals as goal
 

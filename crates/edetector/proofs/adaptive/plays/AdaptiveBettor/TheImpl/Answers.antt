@@ -1,4 +1,7 @@
-use Rattle.edetector.proofs.TallyReads.{tally_steps, tally_past}
+use Rattle.std.proofs.Common.{ap, ◌∙◌, arith}
+use Rattle.edetector.specs.Bettors.{adaptive_meaning}
+use Rattle.edetector.specs.Tallies.{tally_of}
+use Rattle.edetector.proofs.TallyReads.{tally_long, adaptive_learns}
 use Rattle.edetector.proofs.adaptive.plays.AdaptiveBettor.TheImpl.Goals as goal
 
 pub learn-tells : goal.learn-tells
@@ -6,6 +9,6 @@ learn-tells c =
     let b = c.args.self.now in
     let after = c.new.self.now in
     record {
-      step = tally_steps b after c.args.class c.ensures.table c.ensures.tally;
-      same = tally_past b after c.args.class c.ensures.same;
+      step = ap (λ ws. adaptive_meaning ws (tally_of after)) c.ensures.table ∙ adaptive_learns b.null (tally_of b) (tally_of after) c.args.class (omega (arith, tally_long after, after.within)) c.ensures.tally;
+      same = c.ensures.none;
     }

@@ -1,31 +1,37 @@
 use Rattle.std.proofs.Common.{◌+◌, get_or, refl, ◌∙◌, arith, length-set}
-use Rattle.edetector.specs.Weights.{null_weights}
-use Rattle.edetector.specs.Held.{null_long}
-use Rattle.edetector.proofs.TallyReads.{count_part, tally_more, tally_learns, tally_moves}
+use Rattle.edetector.proofs.TallyReads.{tally_long, count_part, tallied_more, tally_moves, tally_stays, tally_full}
 use Rattle.edetector.proofs.adaptive.plays.AdaptiveBettor.learn.Goals as goal
+use Rattle.edetector.proofs.adaptive.plays.AdaptiveBettor.learn.Goals.{else-class-classes-via-then-class-classes+else-self-lt-MOST_TALLIED, else-class-classes-via-else-class-classes}
 
 pub overflow_add-self : goal.overflow_add-self
-overflow_add-self c = omega (arith, count_part c.args.self.now c.args.class c.if-class-self.true, c.args.self.now.capped)
+overflow_add-self c = let h = c.if-class-classes.true in omega (arith, count_part c.args.self.now c.args.class (omega arith), c.args.self.now.within)
 
 pub invariant_of-self : goal.invariant_of-self
 invariant_of-self c =
     let b = c.args.self.now in
     let k = c.args.class in
     record {
+      null_unbroken = b.null_unbroken;
       room = length-set b.counts k (get_or b.counts k 0 + 1) ∙ b.room;
-      tallies = tally_more b k c.if-class-self.true;
-      capped = omega arith;
+      counted = tallied_more b k (omega arith);
+      within = omega arith;
     }
 
 pub returns-then-self-lt-MOST_TALLIED : goal.returns-then-self-lt-MOST_TALLIED
 returns-then-self-lt-MOST_TALLIED c =
     let b = c.args.self.now in
-    let ws = null_weights b.null in
-    let long = null_long b.null in
-    let below = c.if-class-self.true in
     let room = c.if-self-lt-MOST_TALLIED.true in
     record {
       table = refl;
-      tally = tally_learns b.null.classes c.args.class b.seen ws b.counts long below room;
-      same = λ none. absurd (tally_moves b.null.classes c.args.class b.seen ws b.counts long below room none);
+      tally = tally_moves b c.args.class (omega arith) room;
+      none = λ past. absurd (omega arith);
+      full = λ all. absurd (omega (arith, tally_long b));
     }
+
+pub returns-else-class-classes-clause-tally : goal.returns-else-class-classes-clause-tally
+returns-else-class-classes-clause-tally c =
+    let b = c.args.self.now in
+    elim c.else-class-classes.branch [
+      else-class-classes-via-then-class-classes+else-self-lt-MOST_TALLIED w ↦ tally_full b c.args.class (omega arith)
+      | else-class-classes-via-else-class-classes w ↦ tally_stays b c.args.class (omega arith)
+    ]

@@ -1,9 +1,7 @@
 use Rattle.std.proofs.Common.{◌≡◌, ap, ◌∙◌, get_or, arith}
 use Rattle.std.proofs.lemmas.Grind.{common_steps}
-use Rattle.edetector.proofs.Copying.{factor_at, padded_at}
 use Rattle.edetector.specs.Units.{factors_in}
-use Rattle.edetector.specs.Bettors.{fixed_strategy}
-use Rattle.edetector.specs.Weights.{null_weights, alternative_weights}
+use Rattle.edetector.proofs.Copying.{factor_at, padded_at}
 use Rattle.edetector.proofs.fixed.plays.FixedBettor.factor.Goals as goal
 
 pub returns : goal.returns

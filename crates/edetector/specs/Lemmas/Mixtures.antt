@@ -1,11 +1,11 @@
--- What a mixture keeps.
+-- What a mixture keeps: where the tables are the same, half the sum of two fair rows is fair.
 use Rattle.std.specs.Prelude.{◌≡◌, ℕ, zero, suc, ◌+◌, ◌*◌, ◌/◌, ◌≤◌, true, List, [], ◌∷◌, length, ◌==◌, slice_index, slice_index_or, refl}
 use Rattle.std.proofs.lemmas.Bool.{and_parts, cond_both}
 use Rattle.std.proofs.Common.{sym, ap, ◌∙◌, subst, arith}
 use Rattle.std.proofs.lemmas.Bool.Decides.{nat_tests}
-use Rattle.edetector.specs.Tables.{weigh, IsFair}
+use Rattle.edetector.specs.Tables.{IsFair}
 use Rattle.edetector.specs.Bettors.{Meaning, IsBettor, pairs_alike, same_table, averages, mixed_row, mixture}
-use Rattle.edetector.specs.Sums.{weigh_mono, weigh_scale, weigh_add}
+use Rattle.edetector.specs.Lemmas.Sums.{weigh, weigh_mono, weigh_scale, weigh_add, fair_by_class, fair_from_class}
 
 pairs_from : (xs ys : List ℕ) → length xs ≡ length ys → pairs_alike xs ys ≡ length xs → xs ≡ ys
 pairs_from [] [] e h = refl
@@ -39,13 +39,15 @@ averages_long [] (y ∷ g) e = absurd (omega arith)
 averages_long (x ∷ f) [] e = absurd (omega arith)
 averages_long (x ∷ f) (y ∷ g) e = ap suc (averages_long f g (omega arith))
 
-averages_fair : (ws f g : List ℕ) → length f ≡ length g → IsFair ws f → IsFair ws g → IsFair ws (averages f g)
-averages_fair ws f g e p q =
+averages_fair : (ws f g : List ℕ) → length f ≡ length ws → length f ≡ length g → IsFair ws f → IsFair ws g → IsFair ws (averages f g)
+averages_fair ws f g long e p q =
     let m : ℕ → ℕ = λ k. slice_index_or (averages f g) k 0 in
     let x : ℕ → ℕ = λ k. slice_index_or f k 0 in
     let y : ℕ → ℕ = λ k. slice_index_or g k 0 in
     let up : weigh ws 0 (λ k. 2 * m k) ≤ weigh ws 0 (λ k. x k + y k) = weigh_mono ws 0 (λ k. 2 * m k) (λ k. x k + y k) (λ k. let at = averages_at f g e k in omega (arith, at)) in
-    omega (arith, up, weigh_scale ws 0 2 m, weigh_add ws 0 x y, p, q)
+    let fair-f = fair_by_class ws f long p in
+    let fair-g = fair_by_class ws g (sym e ∙ long) q in
+    fair_from_class ws (averages f g) (averages_long f g e ∙ long) (omega (arith, up, weigh_scale ws 0 2 m, weigh_add ws 0 x y, fair-f, fair-g))
 
 module _ (ws vs f g : List ℕ) (long-f : length f ≡ length ws) (long-g : length g ≡ length vs) where
   pub level : same_table ws vs ≡ true → length f ≡ length g
@@ -57,7 +59,7 @@ module _ (ws vs f g : List ℕ) (long-f : length f ≡ length ws) (long-g : leng
   pub mixed_fair : IsFair ws f → IsFair vs g → IsFair ws (mixed_row ws vs f g)
   mixed_fair p q =
       cond_both (same_table ws vs) (averages f g) f (λ r. IsFair ws r)
-      (λ h. averages_fair ws f g (level h) p (subst (λ (t : List ℕ). IsFair t g) (sym (same_from ws vs h)) q)) (λ h. p)
+      (λ h. averages_fair ws f g long-f (level h) p (subst (λ (t : List ℕ). IsFair t g) (sym (same_from ws vs h)) q)) (λ h. p)
 
 -- what a mixture keeps follows from what its two bettors keep
 pub mixture_law : (first second : Meaning) → IsBettor first → IsBettor second → IsBettor (mixture first second)

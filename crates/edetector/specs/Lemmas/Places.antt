@@ -1,0 +1,25 @@
+-- The places of a table give its weights back.
+use Rattle.std.specs.Prelude.{◌≡◌, ℕ, ◌-◌, ◌≤◌, List, [], ◌∷◌, ◌++◌, length, map, take, drop, replicate, refl}
+use Rattle.std.proofs.Common.{sym, ap, ap₂, ◌∙◌, arith, take-append-drop}
+use Rattle.std.proofs.lemmas.List.{length-take-le, length-map, take-map}
+use Rattle.edetector.specs.declared.units.Weight.{Weight}
+use Rattle.edetector.specs.Units.{weights_in}
+use Rattle.edetector.specs.Tables.{most_classes}
+use Rattle.edetector.specs.Places.{IsTable, places_for}
+
+weights_back : (ws : List Weight) → ◌≡◌ {A = List Weight} (map (λ w. record { 0 = w }) (weights_in ws)) ws
+weights_back [] = refl
+weights_back (w ∷ ws) = ap (λ (l : List Weight). w ∷ l) (weights_back ws)
+
+module _ (least classes : ℕ) (weights : List Weight) (total : ℕ) (table : IsTable least classes weights total) where
+  pub held_long : length (take classes (weights_in weights)) ≡ classes
+  held_long = length-take-le classes (weights_in weights) (omega (arith, table.room, table.fits, length-map weights (λ w. w.0)))
+
+  pub held_back : places_for (take classes (weights_in weights)) ≡ weights
+  unfolding places_for
+  held_back =
+      let front : ◌≡◌ {A = List Weight} (map (λ w. record { 0 = w }) (take classes (weights_in weights))) (take classes weights) =
+      ap (map (λ (w : ℕ). let u : Weight = record { 0 = w } in u)) (take-map (λ w. w.0) classes weights) ∙ weights_back (take classes weights) in
+      let end : ◌≡◌ {A = List Weight} (replicate (most_classes - length (take classes (weights_in weights))) (record { 0 = 0 })) (drop classes weights) =
+      ap (λ n. replicate (most_classes - n) (record { 0 = 0 })) held_long ∙ sym table.behind in
+      ap₂ (λ (xs ys : List Weight). xs ++ ys) front end ∙ take-append-drop classes weights
