@@ -1,8 +1,7 @@
 -- What the writer may take for granted once the fields are judged.
-use Rattle.std.proofs.Common.{◌≡◌, ℕ, suc, ◌^◌, ◌<◌, Bool, true, false, cond, not, List, [], ◌∷◌, length, get_or, Some, None, Ok, Option, Result, sym, refl}
+use Rattle.std.proofs.Common.{◌≡◌, ℕ, suc, ◌^◌, ◌<◌, true, List, [], ◌∷◌, length, get_or, Some, None, Ok, Option, Result, refl}
 use Rattle.std.specs.List.{sum}
 use Rattle.edetector.specs.declared.value.ValueFault.{ValueFault}
-use Rattle.edetector.specs.declared.value.ValueFault.TheVariants.{Classes, Weight, Total}
 use Rattle.edetector.specs.Tables.{fewest_classes, most_classes, most_total, from_to, weights_within, table_fault, unless_fault}
 use Rattle.edetector.specs.Limits.{by_tests}
 use Rattle.plantlog.specs.declared.fault.RecordFault.{RecordFault}

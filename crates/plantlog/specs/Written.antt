@@ -1,5 +1,5 @@
 -- What writing a record answers, and what the buffer holds then.
-use Rattle.std.specs.Prelude.{◌≡◌, ℕ, ◌≤◌, if◌then◌else◌, List, ◌∷◌, ◌++◌, length, drop, IfOk, Some, None, Ok, Err, Option, Result, nat_le}
+use Rattle.std.specs.Prelude.{◌≡◌, ℕ, ◌≤◌, if◌then◌else◌, List, ◌∷◌, ◌++◌, length, drop, IfOk, Ok, Err, Result, nat_le}
 use Rattle.edetector.specs.Tables.{table_fault, unless_fault}
 use Rattle.plantlog.specs.FirstRecord.{first_record}
 use Rattle.plantlog.specs.declared.fault.RecordFault.{RecordFault}
