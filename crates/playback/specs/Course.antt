@@ -13,7 +13,7 @@ use Rattle.plantlog.specs.Format.{Fields, Count, Rearm, End}
 use Rattle.daybook.specs.declared.fault.BookFault.TheVariants.{Full}
 use Rattle.daybook.specs.declared.entry.unwatched.Unwatched.{Unwatched}
 use Rattle.daybook.specs.Books.{above}
-use Rattle.daybook.specs.Entries.{AlarmView}
+use Rattle.daybook.specs.declared.entry.alarm.Alarm.{Alarm}
 use Rattle.playback.specs.declared.stop.ReplayFault.{ReplayFault}
 use Rattle.playback.specs.declared.stop.ReplayFault.TheVariants.{Record, Monitor, Book, NotAllowed, DayNotAbove, CountsDiffer, Trailing}
 use Rattle.playback.specs.declared.stop.Fault.{Fault}
@@ -38,12 +38,12 @@ after_all t s [] = s
 after_all t s (e ∷ es) = after_all t (after_event t s e) es
 
 -- the settled counts whose ledger came to the threshold, with day, round and ledger
-abbrev pub alarm_of : Terms → Standing → Event → List AlarmView
+abbrev pub alarm_of : Terms → Standing → Event → List Alarm
 alarm_of t s (Settled day count) =
     let after = after_event t s (Settled day count) in alarm_if (nat_le (t.threshold * bet) after.ledger) day after []
 alarm_of t s _ = []
 
-abbrev pub alarms_of : Terms → Standing → List Event → List AlarmView
+abbrev pub alarms_of : Terms → Standing → List Event → List Alarm
 alarms_of t s [] = []
 alarms_of t s (e ∷ es) = alarm_of t s e ++ alarms_of t (after_event t s e) es
 
