@@ -1,10 +1,9 @@
 -- Lines put one after the other.
-use Rattle.std.proofs.Common.{◌≡◌, ℕ, ◌+◌, ◌<◌, List, [], ◌∷◌, ◌++◌, map, length, get_or, take, Option, Some, None, IfSome, option_map, sym, refl, ap, ◌∙◌}
+use Rattle.std.proofs.Common.{◌≡◌, ℕ, ◌+◌, ◌<◌, List, [], ◌∷◌, ◌++◌, length, get_or, take, Option, Some, None, IfSome, option_map, sym, refl, ap, ◌∙◌}
 use Rattle.std.specs.Fmt.{option_append}
 use Rattle.std.proofs.lemmas.List.{append_assoc, append-nil, take_more}
 use Rattle.daybook.specs.declared.entry.alarm.Alarm.{Alarm}
 use Rattle.daybook.specs.declared.entry.unwatched.Unwatched.{Unwatched}
-use Rattle.daybook.specs.Entries.{alarm_view}
 use Rattle.daybook.specs.Lines.{ended_line, printed_lines, lines, alarm_line, unwatched_line}
 
 -- what stands behind `old`, with the text of o put before that of p
@@ -42,17 +41,10 @@ printed_lines-some : {X : Type 0} (text : X → List ℕ) (xs : List X) → prin
 printed_lines-some text [] = refl
 printed_lines-some text (x ∷ xs) = ap (option_append (Some (ended_line (text x)))) (printed_lines-some text xs)
 
-lines-map : {X Y : Type 0} (text : X → List ℕ) (view : Y → X) (ys : List Y) → lines (λ y. text (view y)) ys ≡ lines text (map view ys)
-lines-map text view [] = refl
-lines-map text view (y ∷ ys) = ap (λ l. ended_line (text (view y)) ++ l) (lines-map text view ys)
-
-printed_alarms : (xs : List Alarm) → printed_lines (λ a. Some (alarm_line (alarm_view a))) xs ≡ Some (lines alarm_line (map alarm_view xs))
-printed_alarms xs = printed_lines-some (λ a. alarm_line (alarm_view a)) xs ∙ ap Some (lines-map alarm_line alarm_view xs)
-
 -- what the lines of alarms, and those of unwatched days, put behind a text
 module _ (old new : List ℕ) where
-  pub alarms_put : (xs : List Alarm) → IfSome (printed_lines (λ a. Some (alarm_line (alarm_view a))) xs) (λ bs. new ≡ old ++ bs) → new ≡ old ++ lines alarm_line (map alarm_view xs)
-  alarms_put xs h = rw (printed_alarms xs) at h
+  pub alarms_put : (xs : List Alarm) → IfSome (printed_lines (λ a. Some (alarm_line a)) xs) (λ bs. new ≡ old ++ bs) → new ≡ old ++ lines alarm_line xs
+  alarms_put xs h = rw (printed_lines-some alarm_line xs) at h
 
   pub unwatched_put : (xs : List Unwatched) → IfSome (printed_lines (λ u. Some (unwatched_line u)) xs) (λ bs. new ≡ old ++ bs) → new ≡ old ++ lines unwatched_line xs
   unwatched_put xs h = rw (printed_lines-some unwatched_line xs) at h

@@ -1,4 +1,3 @@
 pub mod Books
-pub mod Entries
 pub mod Faults
 pub mod Lines

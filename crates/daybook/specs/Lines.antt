@@ -6,10 +6,10 @@ use Rattle.edetector.specs.Rules.{bet}
 use Rattle.plantlog.specs.declared.fault.Layer.TheVariants.{Value, Number, Record}
 use Rattle.plantlog.specs.declared.record.RuleChoice.{RuleChoice}
 use Rattle.plantlog.specs.declared.record.RuleChoice.TheVariants.{ShiryaevRoberts, Page}
+use Rattle.daybook.specs.declared.entry.alarm.Alarm.{Alarm}
 use Rattle.daybook.specs.declared.entry.unwatched.Unwatched.{Unwatched}
 use Rattle.daybook.specs.declared.line.fault.Layer.{Layer}
 use Rattle.daybook.specs.declared.line.fault.Layer.TheVariants.{Log, Monitor, Book, Replay}
-use Rattle.daybook.specs.Entries.{AlarmView}
 
 -- the hundredths of a bet in so many parts
 abbrev pub hundredths_in : ℕ → ℕ
@@ -39,7 +39,7 @@ abbrev pub monitor_line : ℕ → ℕ → ℕ → RuleChoice → List ℕ
 monitor_line classes total threshold rule =
     codes "monitor classes " ++ (decimal classes ++ (codes " total " ++ (decimal total ++ (codes " threshold " ++ (decimal threshold ++ (codes " rule " ++ rule_text rule))))))
 
-abbrev pub alarm_line : AlarmView → List ℕ
+abbrev pub alarm_line : Alarm → List ℕ
 alarm_line a =
     codes "alarm round " ++ (decimal a.round ++ (codes " day " ++ (decimal a.day ++ (codes " wealth " ++ wealth_text a.ledger))))
 

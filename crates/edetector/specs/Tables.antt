@@ -43,7 +43,7 @@ abbrev pub alternative_fault : List ℕ → Option ValueFault
 alternative_fault ws = table_fault 0 ws
 
 -- a value, unless there is a fault
-abbrev pub unless_fault : {X : Type 0} → Option ValueFault → X → Result X ValueFault
+abbrev pub unless_fault : {X E : Type 0} → Option E → X → Result X E
 unless_fault None x = Ok x
 unless_fault (Some fault) x = Err fault
 

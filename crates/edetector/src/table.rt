@@ -22,7 +22,7 @@ pub const MOST_TOTAL: u32 = 65536;
 #[derive(Clone, Copy, Debug, PartialEq, Eq)]
 pub struct Table<const LEAST: u32> {
     classes: usize,
-    weights: [Weight; 16],
+    weights: [Weight; MOST_CLASSES],
     total: u32,
 }
 

@@ -2,7 +2,7 @@
 use Rattle.std.proofs.Common.{◌≡◌, ℕ, suc, ◌+◌, ◌*◌, ◌/◌, ◌<◌, ◌≤◌, true, List, [], ◌∷◌, length, None, ⊎_elim, arith}
 use Rattle.std.proofs.lemmas.List.{length-append}
 use Rattle.std.proofs.lemmas.Bool.{lt-ltb, le-ltb, cases_lt, and_parts}
-use Rattle.edetector.specs.Tables.{from_to, weights_within}
+use Rattle.edetector.specs.Tables.{fewest_classes, most_classes, most_weight, from_to, weights_within}
 use Rattle.plantlog.specs.Numbers.{groups, number_bytes}
 use Rattle.plantlog.specs.Format.{Fields, Table, Setup, Alternative, Count, Rearm, End, numbers, numbers_bytes, body, fields_fault}
 use Rattle.plantlog.proofs.Limits.{within}
@@ -20,15 +20,15 @@ one_group : (m n : ℕ) → n < 128 → length (groups (suc m) n) ≤ 1
 one_group m n h = let a = lt-ltb n 128 h in rw a (omega arith)
 
 -- a weight takes at most three groups
-weight_few : (n : ℕ) → n ≤ 65536 → length (number_bytes n) ≤ 3
+weight_few : (n : ℕ) → n ≤ most_weight → length (number_bytes n) ≤ 3
 unfolding number_bytes
 weight_few n h = one_less 3 n 2 (one_less 2 (n / 128) 1 (one_group 1 (n / 128 / 128) (omega arith)))
 
 weights_few : (low : ℕ) (ws : List ℕ) → weights_within low ws ≡ true → length (numbers_bytes ws) ≤ 3 * length ws
 weights_few low [] e = omega arith
 weights_few low (w ∷ ws) e =
-    let p = and_parts (from_to low 65536 w) (weights_within low ws) e in
-    let here = weight_few w (within low 65536 w p.0).1 in
+    let p = and_parts (from_to low most_weight w) (weights_within low ws) e in
+    let here = weight_few w (within low most_weight w p.0).1 in
     let rest = weights_few low ws p.1 in
     let sum = length-append (number_bytes w) (numbers_bytes ws) in
     omega (arith, here, rest, sum)
@@ -36,7 +36,7 @@ weights_few low (w ∷ ws) e =
 table_few : (low : ℕ) (ws : List ℕ) → Unbroken low ws → length (numbers_bytes (length ws ∷ ws)) ≤ 53
 table_few low ws u =
     let sum = length-append (number_bytes (length ws)) (numbers_bytes ws) in
-    let few = (within 2 16 (length ws) u.classes).1 in
+    let few = (within fewest_classes most_classes (length ws) u.classes).1 in
     omega (arith, sum, few, bytes_few (length ws), weights_few low ws u.each)
 
 two_few : (n : ℕ) (ns : List ℕ) (k : ℕ) → length (numbers_bytes ns) ≤ k → length (numbers_bytes (n ∷ ns)) ≤ 5 + k

@@ -1,9 +1,10 @@
 -- Fields that were written are read back.
 use Rattle.std.proofs.Common.{◌≡◌, ℕ, ◌^◌, ◌<◌, true, cond, List, [], ◌∷◌, ◌++◌, length, Ok, Err, sym, refl, ap, ◌∙◌, append_assoc, arith}
+use Rattle.std.specs.List.{sum}
 use Rattle.std.proofs.lemmas.List.{append-nil}
 use Rattle.std.proofs.lemmas.Bool.{and_parts}
 use Rattle.edetector.specs.declared.value.ValueFault.TheVariants.{Classes, Weight, Total, Threshold}
-use Rattle.edetector.specs.Tables.{from_to, total, weights_within}
+use Rattle.edetector.specs.Tables.{fewest_classes, most_classes, most_weight, most_total, from_to, weights_within}
 use Rattle.plantlog.specs.declared.fault.RecordFault.{RecordFault}
 use Rattle.plantlog.specs.declared.fault.RecordFault.TheVariants.{Value, Number, UnknownChoice}
 use Rattle.plantlog.specs.Results.{of_ok, of_err, and_then}
@@ -28,20 +29,20 @@ field_back low high fault n rest small e =
 weights_back : (low : ℕ) (ws rest : List ℕ) → weights_within low ws ≡ true → weights low (length ws) (numbers_bytes ws ++ rest) ≡ Ok (ws, rest)
 weights_back low [] rest e = refl
 weights_back low (w ∷ ws) rest e =
-    let p = and_parts (from_to low 65536 w) (weights_within low ws) e in
+    let p = and_parts (from_to low most_weight w) (weights_within low ws) e in
     let split = append_assoc (number_bytes w) (numbers_bytes ws) rest in
-    let here = ap (field low 65536 (Value Weight)) split ∙ field_back low 65536 (Value Weight) w (numbers_bytes ws ++ rest) (omega arith) p.0 in
+    let here = ap (field low most_weight (Value Weight)) split ∙ field_back low most_weight (Value Weight) w (numbers_bytes ws ++ rest) (omega arith) p.0 in
     ap (λ r. and_then r (λ w. of_ok (λ l. (w.0 ∷ l.0, l.1)) (weights low (length ws) w.1))) here
     ∙ ap (of_ok (λ l. (w ∷ l.0, l.1))) (weights_back low ws rest p.1)
 
 pub table_back : (low : ℕ) (ws : List ℕ) → Unbroken low ws → table_fields low (numbers_bytes (length ws ∷ ws)) ≡ Ok ws
 unfolding table_fields table_weights
 table_back low ws u =
-    let k = field_back 2 16 (Value Classes) (length ws) (numbers_bytes ws) (omega arith) u.classes in
+    let k = field_back fewest_classes most_classes (Value Classes) (length ws) (numbers_bytes ws) (omega arith) u.classes in
     let w = ap (weights low (length ws)) (sym (append-nil (numbers_bytes ws))) ∙ weights_back low ws [] u.each in
     let t = u.sum in
-    ap (λ r. and_then (and_then r (λ k. weights low k.0 k.1)) (λ ws. cond (from_to 1 65536 (total ws.0)) (ended ws.0 ws.1) (Err (Value Total)))) k
-    ∙ ap (λ r. and_then r (λ ws. cond (from_to 1 65536 (total ws.0)) (ended ws.0 ws.1) (Err (Value Total)))) w
+    ap (λ r. and_then (and_then r (λ k. weights low k.0 k.1)) (λ ws. cond (from_to 1 most_total (sum ws.0)) (ended ws.0 ws.1) (Err (Value Total)))) k
+    ∙ ap (λ r. and_then r (λ ws. cond (from_to 1 most_total (sum ws.0)) (ended ws.0 ws.1) (Err (Value Total)))) w
     ∙ rw t refl
 
 pub setup_back : (a r b : ℕ) → from_to 1 4096 a ≡ true → from_to 1 2 r ≡ true → from_to 1 3 b ≡ true → setup_fields (numbers_bytes (a ∷ r ∷ b ∷ [])) ≡ Ok (Setup a r b)

@@ -1,8 +1,9 @@
 -- Fields that are read are the writing of what was read.
 use Rattle.std.proofs.Common.{◌≡◌, ℕ, zero, suc, ◌^◌, ◌<◌, Bool, true, false, cond, List, [], ◌∷◌, ◌++◌, length, None, Ok, Err, Result, sym, refl, ap, ◌∙◌, subst, append_assoc}
+use Rattle.std.specs.List.{sum}
 use Rattle.std.proofs.lemmas.List.{append-nil}
 use Rattle.edetector.specs.declared.value.ValueFault.TheVariants.{Classes, Weight, Total, Threshold}
-use Rattle.edetector.specs.Tables.{from_to, total, weights_within, table_fault}
+use Rattle.edetector.specs.Tables.{fewest_classes, most_classes, most_weight, most_total, from_to, weights_within, table_fault}
 use Rattle.plantlog.specs.declared.number.NumberFault.{NumberFault}
 use Rattle.plantlog.specs.declared.fault.RecordFault.{RecordFault}
 use Rattle.plantlog.specs.declared.fault.RecordFault.TheVariants.{Value, Number, UnknownChoice}
@@ -70,11 +71,11 @@ weights_in low zero bs ws rest h e =
     let r : bs ≡ rest = ap (λ q. q.1) p in
     like bs [] ws bs rest w r (none_in bs h)
 weights_in low (suc k) bs ws rest h e =
-    let w = then_was (field low 65536 (Value Weight) bs) _ _ e in
+    let w = then_was (field low most_weight (Value Weight) bs) _ _ e in
     let v = of_ok_was _ (weights low k w.0.1) _ w.2 in
     let l : w.0.0 ∷ v.0.0 ≡ ws = ap (λ p. p.0) v.2 in
     let r : v.0.1 ≡ rest = ap (λ p. p.1) v.2 in
-    like bs (w.0.0 ∷ v.0.0) ws v.0.1 rest l r (field_in low 65536 (Value Weight) bs w.0.0 w.0.1 v.0.0 v.0.1 h w.1 (λ b. weights_in low k w.0.1 v.0.0 v.0.1 b v.1))
+    like bs (w.0.0 ∷ v.0.0) ws v.0.1 rest l r (field_in low most_weight (Value Weight) bs w.0.0 w.0.1 v.0.0 v.0.1 h w.1 (λ b. weights_in low k w.0.1 v.0.0 v.0.1 b v.1))
 
 -- a body of some kind, behind its kind byte: its bytes are the writing of f, which breaks no limit
 pub record Said (kind : ℕ) (f : Fields) (bs : List ℕ) : Type 0 where
@@ -87,7 +88,7 @@ by_sum : (t : Bool) (ws : List ℕ) (rest : List ℕ) (vs : List ℕ) → cond t
 by_sum true ws rest vs e = let w = ended_was ws vs rest e in (refl, w.0, w.1)
 by_sum false ws rest vs e = absurd (err_no_ok e)
 
-no_fault : (low : ℕ) (ws : List ℕ) → from_to 2 16 (length ws) ≡ true → weights_within low ws ≡ true → from_to 1 65536 (total ws) ≡ true → of_value (table_fault low ws) ≡ None
+no_fault : (low : ℕ) (ws : List ℕ) → from_to fewest_classes most_classes (length ws) ≡ true → weights_within low ws ≡ true → from_to 1 most_total (sum ws) ≡ true → of_value (table_fault low ws) ≡ None
 no_fault low ws a b t = rw (a, b, t) refl
 
 -- what a table read says of the bytes
@@ -96,11 +97,11 @@ record TableSaid (low : ℕ) (ws bs : List ℕ) : Type 0 where
   pub sound : of_value (table_fault low ws) ≡ None
   pub small : Sayable (length ws ∷ ws)
 
-table_at : (low : ℕ) (bs : List ℕ) (k : ℕ) (mid ws rest : List ℕ) → Bytes bs → field 2 16 (Value Classes) bs ≡ Ok (k, mid) → weights low k mid ≡ Ok (ws, rest) → NumbersIn bs (length ws ∷ ws) rest
+table_at : (low : ℕ) (bs : List ℕ) (k : ℕ) (mid ws rest : List ℕ) → Bytes bs → field fewest_classes most_classes (Value Classes) bs ≡ Ok (k, mid) → weights low k mid ≡ Ok (ws, rest) → NumbersIn bs (length ws ∷ ws) rest
 table_at low bs k mid ws rest h e f =
     let long = (weights_were low k mid ws rest f).0 in
     like bs (k ∷ ws) (length ws ∷ ws) rest rest (ap (λ j. j ∷ ws) (sym long)) refl
-    (field_in 2 16 (Value Classes) bs k mid ws rest h e (λ b. weights_in low k mid ws rest b f))
+    (field_in fewest_classes most_classes (Value Classes) bs k mid ws rest h e (λ b. weights_in low k mid ws rest b f))
 
 table_written : (low : ℕ) (bs ws : List ℕ) → Bytes bs → table_fields low bs ≡ Ok ws → TableSaid low ws bs
 unfolding table_fields table_weights
@@ -108,9 +109,9 @@ table_written low bs ws h e =
     let t = then_was (table_weights low bs) _ ws e in
     let vs = t.0.0 in
     let rest = t.0.1 in
-    let s = by_sum (from_to 1 65536 (total vs)) vs rest ws t.2 in
+    let s = by_sum (from_to 1 most_total (sum vs)) vs rest ws t.2 in
     let u = table_were low bs vs rest t.1 in
-    let k = then_was (field 2 16 (Value Classes) bs) _ _ t.1 in
+    let k = then_was (field fewest_classes most_classes (Value Classes) bs) _ _ t.1 in
     let at = table_at low bs k.0.0 k.0.1 vs rest h k.1 k.2 in
     subst (λ l. TableSaid low l bs) s.1 (record {
       same = alone bs (length vs ∷ vs) rest s.2 at;

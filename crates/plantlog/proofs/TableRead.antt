@@ -1,14 +1,15 @@
 -- A table read: its weights keep their limits, so that only the total is left to judge.
 use Rattle.std.proofs.Common.{◌≡◌, ℕ, zero, suc, Bool, true, false, cond, not, List, [], ◌∷◌, length, Some, None, Ok, Err, Option, Result, sym, refl, ap, ◌∙◌}
+use Rattle.std.specs.List.{sum}
 use Rattle.std.proofs.lemmas.Bool.{and_from}
 use Rattle.edetector.specs.declared.value.ValueFault.{ValueFault}
 use Rattle.edetector.specs.declared.value.ValueFault.TheVariants.{Classes, Weight, Total}
-use Rattle.edetector.specs.Tables.{from_to, total, weights_within, table_fault}
+use Rattle.edetector.specs.Tables.{fewest_classes, most_classes, most_weight, most_total, from_to, weights_within, table_fault, unless_fault}
 use Rattle.plantlog.specs.declared.fault.RecordFault.{RecordFault}
 use Rattle.plantlog.specs.declared.fault.RecordFault.TheVariants.{Value}
 use Rattle.plantlog.specs.Results.{of_ok, and_then}
 use Rattle.plantlog.specs.FirstRecord.{field, weights, no_more, ended, table_weights, table_fields}
-use Rattle.plantlog.proofs.ResultFacts.{ok_is, then_was, of_ok_was}
+use Rattle.plantlog.proofs.ResultFacts.{ok_is, then_was, of_ok_was, unless_ok, unless_err}
 use Rattle.plantlog.proofs.FieldFacts.{field_was}
 
 -- as many weights as were asked for, each within its limits
@@ -16,19 +17,19 @@ pub weights_were : (low k : ℕ) (bs : List ℕ) (ws rest : List ℕ) → weight
 weights_were low zero bs ws rest e =
     let l : [] ≡ ws = ap (λ p. p.0) (ok_is e) in (ap length (sym l), ap (weights_within low) (sym l))
 weights_were low (suc k) bs ws rest e =
-    let w = then_was (field low 65536 (Value Weight) bs) _ _ e in
+    let w = then_was (field low most_weight (Value Weight) bs) _ _ e in
     let v = of_ok_was _ (weights low k w.0.1) _ w.2 in
     let l : w.0.0 ∷ v.0.0 ≡ ws = ap (λ p. p.0) v.2 in
     let ih = weights_were low k w.0.1 v.0.0 v.0.1 v.1 in
-    let here = (field_was low 65536 (Value Weight) bs w.0.0 w.0.1 w.1).1 in
+    let here = (field_was low most_weight (Value Weight) bs w.0.0 w.0.1 w.1).1 in
     (ap length (sym l) ∙ ap suc ih.0, ap (weights_within low) (sym l) ∙ and_from _ _ here ih.1)
 
-pub table_were : (low : ℕ) (bs ws rest : List ℕ) → table_weights low bs ≡ Ok (ws, rest) → (from_to 2 16 (length ws) ≡ true) × (weights_within low ws ≡ true)
+pub table_were : (low : ℕ) (bs ws rest : List ℕ) → table_weights low bs ≡ Ok (ws, rest) → (from_to fewest_classes most_classes (length ws) ≡ true) × (weights_within low ws ≡ true)
 unfolding table_weights
 table_were low bs ws rest e =
-    let k = then_was (field 2 16 (Value Classes) bs) _ _ e in
+    let k = then_was (field fewest_classes most_classes (Value Classes) bs) _ _ e in
     let w = weights_were low k.0.0 k.0.1 ws rest k.2 in
-    (ap (from_to 2 16) w.0 ∙ (field_was 2 16 (Value Classes) bs k.0.0 k.0.1 k.1).1, w.1)
+    (ap (from_to fewest_classes most_classes) w.0 ∙ (field_was fewest_classes most_classes (Value Classes) bs k.0.0 k.0.1 k.1).1, w.1)
 
 -- what is left to say once a table is judged
 abbrev pub judged : {X : Type 0} → Option ValueFault → Result X RecordFault → Result X RecordFault
@@ -43,21 +44,21 @@ by_total false b t r p q = cc
 
 -- the total, and then nothing more
 abbrev by_sum : List ℕ × List ℕ → Result (List ℕ) RecordFault
-by_sum ws = cond (from_to 1 65536 (total ws.0)) (ended ws.0 ws.1) (Err (Value Total))
+by_sum ws = cond (from_to 1 most_total (sum ws.0)) (ended ws.0 ws.1) (Err (Value Total))
 
 table_judged : (low : ℕ) (bs ws rest : List ℕ) → Ok (ws, rest) ≡ table_weights low bs → table_fields low bs ≡ judged (table_fault low ws) (ended ws rest)
 unfolding table_fields
 table_judged low bs ws rest e =
     let t = table_were low bs ws rest (sym e) in
     ap (λ r. and_then r by_sum) (sym e)
-    ∙ by_total (from_to 2 16 (length ws)) (weights_within low ws) (from_to 1 65536 (total ws)) (ended ws rest) t.0 t.1
+    ∙ by_total (from_to fewest_classes most_classes (length ws)) (weights_within low ws) (from_to 1 most_total (sum ws)) (ended ws rest) t.0 t.1
 
 module _ (low : ℕ) (bs : List ℕ) where
-  pub refused_count : (f : RecordFault) → Err f ≡ field 2 16 (Value Classes) bs → Err f ≡ table_fields low bs
+  pub refused_count : (f : RecordFault) → Err f ≡ field fewest_classes most_classes (Value Classes) bs → Err f ≡ table_fields low bs
   unfolding table_fields table_weights
   refused_count f e = ap (λ r. and_then (and_then r (λ k. weights low k.0 k.1)) by_sum) e
 
-  module _ (k : ℕ) (behind : List ℕ) (counted : Ok (k, behind) ≡ field 2 16 (Value Classes) bs) where
+  module _ (k : ℕ) (behind : List ℕ) (counted : Ok (k, behind) ≡ field fewest_classes most_classes (Value Classes) bs) where
     reads : {r : Result (List ℕ × List ℕ) RecordFault} (places : ℕ) → places ≡ k → r ≡ weights low places behind → r ≡ table_weights low bs
     unfolding table_weights
     reads places same e = e ∙ ap (λ j. weights low j behind) same ∙ ap (λ r. and_then r (λ k. weights low k.0 k.1)) counted
@@ -73,12 +74,12 @@ module _ (low : ℕ) (bs : List ℕ) where
       by_fault : (o : Option ValueFault) → table_fault low ws ≡ o → table_fields low bs ≡ judged o (ended ws rest)
       by_fault o e = table_judged low bs ws rest whole ∙ ap (λ f. judged f (ended ws rest)) e
 
-      pub refused_whole : (f : ValueFault) → table_fault low ws ≡ Some f → Err (Value f) ≡ table_fields low bs
-      refused_whole f e = sym (by_fault (Some f) e)
+      pub refused_whole : (f : ValueFault) → Err f ≡ unless_fault (table_fault low ws) ws → Err (Value f) ≡ table_fields low bs
+      refused_whole f e = sym (by_fault (Some f) (unless_err _ ws f e))
 
-      module _ (none : table_fault low ws ≡ None) where
+      module _ (table : List ℕ) (made : Ok table ≡ unless_fault (table_fault low ws) ws) where
         pub refused_more : (f : RecordFault) → Err f ≡ no_more rest → Err f ≡ table_fields low bs
-        refused_more f e = ap (of_ok (λ _. ws)) e ∙ sym (by_fault None none)
+        refused_more f e = ap (of_ok (λ _. ws)) e ∙ sym (by_fault None (unless_ok _ ws table made).0)
 
-        pub accepted : (held : List ℕ) → held ≡ ws → Ok tt ≡ no_more rest → Ok held ≡ table_fields low bs
-        accepted held same e = ap Ok same ∙ ap (of_ok (λ _. ws)) e ∙ sym (by_fault None none)
+        pub accepted : Ok tt ≡ no_more rest → Ok table ≡ table_fields low bs
+        accepted e = let m = unless_ok _ ws table made in ap Ok m.1 ∙ ap (of_ok (λ _. ws)) e ∙ sym (by_fault None m.0)

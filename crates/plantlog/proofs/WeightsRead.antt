@@ -3,6 +3,7 @@ use Rattle.std.proofs.Common.{◌≡◌, ℕ, suc, ◌+◌, ◌-◌, ◌<◌, Li
 use Rattle.std.proofs.lemmas.List.{length-map, map-set, take_more_set}
 use Rattle.edetector.specs.declared.units.Weight.{Weight}
 use Rattle.edetector.specs.declared.value.ValueFault.TheVariants.{Weight as WeightFault}
+use Rattle.edetector.specs.Tables.{most_weight}
 use Rattle.edetector.specs.Units.{weights_in}
 use Rattle.plantlog.specs.declared.fault.RecordFault.{RecordFault}
 use Rattle.plantlog.specs.declared.fault.RecordFault.TheVariants.{Value}
@@ -27,7 +28,7 @@ module _ (low classes : ℕ) (bytes : List ℕ) where
     step : weights low (classes - k) rest ≡ weights low (suc (classes - (k + 1))) rest
     step = let e : classes - k ≡ suc (classes - (k + 1)) = omega arith in ap (λ j. weights low j rest) e
 
-    pub sofar_more : (w : ℕ) (behind : List ℕ) → Ok (w, behind) ≡ field low 65536 (Value WeightFault) rest → Sofar low classes bytes (k + 1) (set list k (record { 0 = w })) behind
+    pub sofar_more : (w : ℕ) (behind : List ℕ) → Ok (w, behind) ≡ field low most_weight (Value WeightFault) rest → Sofar low classes bytes (k + 1) (set list k (record { 0 = w })) behind
     sofar_more w behind read =
         let j = classes - (k + 1) in
         let h : k < length (weights_in list) = omega (arith, length-map list (λ w. w.0), s.room) in
@@ -38,7 +39,7 @@ module _ (low classes : ℕ) (bytes : List ℕ) where
           left = ap (λ l. after l (weights low j behind)) grown ∙ after_one (take k (weights_in list)) w (weights low j behind) ∙ ap (after (take k (weights_in list))) (sym (step ∙ here)) ∙ s.left;
         }
 
-    pub refused : (e : RecordFault) → Err e ≡ field low 65536 (Value WeightFault) rest → Err e ≡ weights low classes bytes
+    pub refused : (e : RecordFault) → Err e ≡ field low most_weight (Value WeightFault) rest → Err e ≡ weights low classes bytes
     refused e read =
         let j = classes - (k + 1) in
         let here : weights low (suc j) rest ≡ Err e = ap (λ f. and_then f (λ w. of_ok (λ ws. (w.0 ∷ ws.0, ws.1)) (weights low j w.1))) (sym read) in

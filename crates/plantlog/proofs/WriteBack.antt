@@ -1,6 +1,7 @@
 -- What a call of the writer gives and leaves, from the record put into its buffer.
-use Rattle.std.proofs.Common.{◌≡◌, ℕ, ◌≤◌, Bool, true, false, cond, leb, List, ◌∷◌, length, drop, IfOk, Ok, Err, Result, sym, refl, ap, ◌∙◌, subst, arith}
+use Rattle.std.proofs.Common.{◌≡◌, ℕ, ◌≤◌, Bool, true, false, cond, leb, List, ◌∷◌, length, drop, IfOk, Some, Ok, Err, Result, sym, refl, ap, ◌∙◌, subst, arith}
 use Rattle.std.proofs.lemmas.Bool.{leb-true}
+use Rattle.edetector.specs.Tables.{unless_fault}
 use Rattle.plantlog.specs.declared.fault.RecordFault.{RecordFault}
 use Rattle.plantlog.specs.declared.fault.RecordFault.TheVariants.{WriteBuffer}
 use Rattle.plantlog.specs.Results.{and_then}
@@ -38,3 +39,13 @@ wrote f kind ns r out old at is ok small value after =
       back = back f ok (subst Sayable is small) r out old held;
       fits = fits r _ (length old) value;
     }
+
+-- fields that break a limit are not written
+pub refused : (f : Fields) (old : List ℕ) (e : RecordFault) (r : Result ℕ RecordFault) → fields_fault f ≡ Some e → r ≡ Err e → Wrote f old r old
+refused f old e r broken is =
+    rw is (record {
+      value = sym (ap (λ o. and_then (unless_fault {X = Unit {0}} o tt) (λ _. room_judged (length (record_bytes f)) (length old))) broken);
+      after = refl;
+      back = tt;
+      fits = tt;
+    })

@@ -1,7 +1,7 @@
 -- The record at the front of some bytes, or the first condition that refuses it.
-use Rattle.std.specs.Prelude.{ℕ, zero, suc, if◌then◌else◌, List, [], ◌∷◌, length, take, drop, Ok, Err, Result, ◌==◌, nat_le}
+use Rattle.std.specs.Prelude.{ℕ, zero, suc, if◌then◌else◌, List, [], ◌∷◌, length, take, drop, sum, Ok, Err, Result, ◌==◌, nat_le}
 use Rattle.edetector.specs.declared.value.ValueFault.TheVariants.{Classes, Weight, Total, Threshold}
-use Rattle.edetector.specs.Tables.{from_to, total}
+use Rattle.edetector.specs.Tables.{fewest_classes, most_classes, most_weight, most_total, from_to}
 use Rattle.plantlog.specs.declared.fault.RecordFault.{RecordFault}
 use Rattle.plantlog.specs.declared.fault.RecordFault.TheVariants.{Value, Number, NoneLeft, LengthByte, Truncated, UnknownKind, UnknownChoice, LeftOver}
 use Rattle.plantlog.specs.Results.{of_ok, of_err, and_then}
@@ -19,7 +19,7 @@ field low high fault bs = and_then (any_field bs) (λ n. if from_to low high n.0
 -- k weights of at least low
 abbrev pub weights : ℕ → ℕ → List ℕ → Result (List ℕ × List ℕ) RecordFault
 weights low zero bs = Ok ([], bs)
-weights low (suc k) bs = and_then (field low 65536 (Value Weight) bs) (λ w. of_ok (λ ws. (w.0 ∷ ws.0, ws.1)) (weights low k w.1))
+weights low (suc k) bs = and_then (field low most_weight (Value Weight) bs) (λ w. of_ok (λ ws. (w.0 ∷ ws.0, ws.1)) (weights low k w.1))
 
 -- nothing may follow the last field
 abbrev pub no_more : List ℕ → Result (Unit {0}) RecordFault
@@ -31,13 +31,13 @@ ended x bs = of_ok (λ _. x) (no_more bs)
 
 -- the number of classes, and as many weights
 unfoldable pub table_weights : ℕ → List ℕ → Result (List ℕ × List ℕ) RecordFault
-table_weights low bs = and_then (field 2 16 (Value Classes) bs) (λ k. weights low k.0 k.1)
+table_weights low bs = and_then (field fewest_classes most_classes (Value Classes) bs) (λ k. weights low k.0 k.1)
 
 -- a table: its weights, then their total, then nothing more
 unfoldable pub table_fields : ℕ → List ℕ → Result (List ℕ) RecordFault
 table_fields low bs =
     and_then (table_weights low bs)
-    (λ ws. if from_to 1 65536 (total ws.0) then ended ws.0 ws.1 else Err (Value Total))
+    (λ ws. if from_to 1 most_total (sum ws.0) then ended ws.0 ws.1 else Err (Value Total))
 
 unfoldable pub setup_fields : List ℕ → Result Fields RecordFault
 setup_fields bs =

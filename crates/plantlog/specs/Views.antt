@@ -1,5 +1,4 @@
 -- Values of the library seen as what a record says.
-use Rattle.edetector.specs.Weights.{null_weights, alternative_weights}
 use Rattle.plantlog.specs.declared.record.Setup.{Setup as SetupValue}
 use Rattle.plantlog.specs.declared.record.Record.{Record}
 use Rattle.plantlog.specs.declared.record.Record.TheVariants.{Table as TableRead, Setup as SetupRead, Alternative as AlternativeRead, Rearm as RearmRead, End as EndRead}
@@ -13,9 +12,9 @@ setup_said s = Setup s.threshold (rule_number s.rule) (bettor_number s.bettor)
 
 -- what a record that was read says
 abbrev pub record_said : Record → Fields
-record_said (TableRead t) = Table (null_weights t)
+record_said (TableRead t) = Table t
 record_said (SetupRead s) = setup_said s
-record_said (AlternativeRead t) = Alternative (alternative_weights t)
+record_said (AlternativeRead t) = Alternative t
 record_said RearmRead = Rearm
 record_said (EndRead n) = End n
 

@@ -1,6 +1,6 @@
 -- What writing a record answers, and what the buffer holds then.
-use Rattle.std.specs.Prelude.{◌≡◌, ℕ, ◌≤◌, if◌then◌else◌, List, ◌∷◌, ◌++◌, length, drop, IfOk, Some, None, Ok, Err, Option, Result, nat_le}
-use Rattle.edetector.specs.Tables.{table_fault}
+use Rattle.std.specs.Prelude.{◌≡◌, ℕ, ◌≤◌, if◌then◌else◌, List, ◌∷◌, ◌++◌, length, drop, IfOk, Ok, Err, Result, nat_le}
+use Rattle.edetector.specs.Tables.{table_fault, unless_fault}
 use Rattle.plantlog.specs.FirstRecord.{first_record}
 use Rattle.plantlog.specs.declared.fault.RecordFault.{RecordFault}
 use Rattle.plantlog.specs.declared.fault.RecordFault.TheVariants.{WriteBuffer}
@@ -8,13 +8,9 @@ use Rattle.plantlog.specs.declared.record.Kind.{Kind}
 use Rattle.plantlog.specs.Results.{and_then}
 use Rattle.plantlog.specs.Format.{Fields, kind_of, numbers, of_value, fields_fault, record_bytes}
 
-abbrev pub unless : Option RecordFault → Result (Unit {0}) RecordFault
-unless None = Ok tt
-unless (Some e) = Err e
-
 -- the fields break no limit, or the first that they break
 abbrev pub fields_judged : Fields → Result (Unit {0}) RecordFault
-fields_judged f = unless (fields_fault f)
+fields_judged f = unless_fault (fields_fault f) tt
 
 -- so many bytes into a buffer of so many, or it is too short
 abbrev pub room_judged : ℕ → ℕ → Result ℕ RecordFault

@@ -6,6 +6,7 @@ ghost use Rattle.plantlog.specs.FirstRecord.{any_field, field, no_more, weights 
 
 use super::fault::RecordFault;
 use super::number::read_number;
+use edetector::table::MOST_WEIGHT;
 use edetector::units::Weight;
 use edetector::value::ValueFault;
 
@@ -49,7 +50,11 @@ impl<'a> FieldsLeft<'a> {
             ≡ weights_read low (length weights.old) self.old.bytes.now }
     {
         for weight in weights.iter_mut() {
-            *weight = Weight(self.within(low, 65536, RecordFault::Value(ValueFault::Weight))?);
+            *weight = Weight(self.within(
+                low,
+                MOST_WEIGHT,
+                RecordFault::Value(ValueFault::Weight),
+            )?);
         }
         Ok(())
     }

@@ -137,25 +137,8 @@ impl From<Record> for Kind {
     }
 }
 
-impl From<Parsed> for Kind {
-    ghost use Rattle.plantlog.specs.Format.{kind_of};
-    ghost use Rattle.plantlog.specs.Views.{parsed_said};
-
-    ghost from_gives = { λ parsed kind. kind ≡ kind_of (parsed_said parsed) };
-
-    fn from(parsed: Parsed) -> Kind {
-        match parsed {
-            Parsed::Count { day, .. } => Kind::Count(day),
-            Parsed::Other(record) => Kind::from(record),
-        }
-    }
-}
-
 impl Parsed {
-    ghost use Rattle.std.specs.Prelude.{Err, MatchOption};
-    ghost use Rattle.plantlog.specs.declared.fault.RecordFault.TheVariants.{WrongCall};
     ghost use Rattle.plantlog.specs.Results.{of_ok};
-    ghost use Rattle.plantlog.specs.Format.{Count as CountSaid};
     ghost use Rattle.plantlog.specs.Calls.{no_count, only_count};
     ghost use Rattle.plantlog.specs.Views.{record_said, parsed_said};
 
@@ -166,18 +149,6 @@ impl Parsed {
         match self {
             Parsed::Count { count, .. } => Ok(count),
             Parsed::Other(_) => Err(RecordFault::WrongCall),
-        }
-    }
-
-    // What is kept of a count of so many bytes.
-    pub(super) fn judged(self, span: usize) -> Option<JudgedCount>
-        ensures { MatchOption result
-            (only_count (parsed_said self) ≡ Err WrongCall)
-            (λ j. (parsed_said self ≡ CountSaid j.day j.count) × (j.span ≡ span)) }
-    {
-        match self {
-            Parsed::Count { day, count } => Some(JudgedCount { day, count, span }),
-            Parsed::Other(_) => None,
         }
     }
 

@@ -25,11 +25,10 @@ use Rattle.playback.specs.Accepted.{NoFault, WatchedRecords, AfterSetup, LogReco
 use Rattle.playback.specs.Course.{Event, Settled, Passed, Rearmed, days_of, RisingDays, free_in, EventsOf, behind_all, spot_behind, Reached}
 use Rattle.plantlog.specs.declared.record.Setup.{Setup as SetupValue}
 use Rattle.playback.specs.Front.{rule_named, bettor_named}
-use Rattle.playback.specs.Replayed.{Replay, begun, finished, no_monitor, with_record, monitored, play_of, has_alternative, alternative_of, after_table, replayed, head_of}
+use Rattle.playback.specs.Replayed.{Replay, begun, finished, no_monitor, with_record, monitored, play_of, has_alternative, alternative_of, after_table, replayed, replay_told, head_of}
 use Rattle.playback.specs.Replaying.{Spot, longest, first_spot, nowhere, behind, fault_in, watching}
 use Rattle.playback.specs.Stream.{Stream, Over, Broken, Next, opened, stream_by, stream_of}
 use Rattle.playback.specs.Rest.{Rest, whole, taken_whole}
-use Rattle.playback.specs.Told.{said_by, replay_told}
 use Rattle.playback.specs.Watch.{Watch, Places}
 use Rattle.playback.proofs.OneReading.{only_records}
 use Rattle.playback.proofs.Courses.{has_whole_course}
@@ -175,7 +174,7 @@ not_too_long log rest false fits e = cc
 
 -- what is reported of a log without a fault
 pub accepted : (r : Result Run Fault) (alarms : Book Alarm) (unwatched : Book Unwatched) (p : Places) (log : List ℕ) (rest : Rest) → Ok rest ≡ taken_whole log → ((i : ℕ) → Fits w8 (get_or log i 0)) →
-    replay_told r alarms unwatched ≡ replayed p (stream_of rest.left) rest.at → NoFault (said_by r) → Accepted log
+    replay_told r alarms unwatched ≡ replayed p (stream_of rest.left) rest.at → NoFault r → Accepted log
 accepted (Ok run) alarms unwatched p log rest is fits told none =
     let told_whole = told ∙ ap (λ (x : Rest). replayed p (stream_of x.left) x.at) (whole_by log rest (leb (length log) longest) is) in
     let l = by_table p (stream_of log) first_spot (subst (λ (x : Replay). NoFault x.said) told_whole none) in

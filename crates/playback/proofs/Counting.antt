@@ -1,5 +1,5 @@
 -- A count record on plain data.
-use Rattle.std.proofs.Common.{◌≡◌, ℕ, ◌+◌, Bool, true, false, cond, eqb, ltb, List, [], ◌∷◌, map, length, Ok, Err, Result, refl, ap, ◌∙◌, arith}
+use Rattle.std.proofs.Common.{◌≡◌, ℕ, ◌+◌, Bool, true, false, cond, eqb, ltb, List, [], length, Ok, Err, Result, refl, ap, ◌∙◌, arith}
 use Rattle.std.proofs.lemmas.Bool.Decides.{nat_tests}
 use Rattle.edetector.specs.declared.state.State.{State}
 use Rattle.edetector.specs.declared.state.State.TheVariants.{Armed, Staked, Rung}
@@ -12,22 +12,22 @@ use Rattle.edetector.specs.Ledger.{Terms, Standing, outcome, rings, staked, sett
 use Rattle.edetector.specs.View.{standing}
 use Rattle.playback.specs.declared.stop.ReplayFault.{ReplayFault}
 use Rattle.daybook.specs.declared.entry.unwatched.Unwatched.{Unwatched}
-use Rattle.daybook.specs.Books.{all_used, above, above_in}
-use Rattle.daybook.specs.Entries.{AlarmView}
+use Rattle.daybook.specs.Books.{all_used, above}
+use Rattle.daybook.specs.declared.entry.alarm.Alarm.{Alarm}
 use Rattle.playback.specs.Rest.{Rest, behind_count, moved_if}
 use Rattle.playback.specs.Watch.{Watch, Places, done, round_done, watched_count, round, after_settle, settled_slip, shown, watched, count_read}
 
 -- a refusal differs from a taken round
-refused_not_taken : (f : ReplayFault) (s s' : Standing) (ents ents' : List AlarmView) → round (Err f) s ents ≡ round (Ok tt) s' ents' → ⊥
+refused_not_taken : (f : ReplayFault) (s s' : Standing) (ents ents' : List Alarm) → round (Err f) s ents ≡ round (Ok tt) s' ents' → ⊥
 refused_not_taken f s s' ents ents' e =
     let told : ◌≡◌ {A = Result (Unit {0}) ReplayFault} (Err f) (Ok tt) = ap (λ r. r.answer) e in
     cc
 
-abbrev Same : Standing → List AlarmView → Standing → List AlarmView → Type 0
+abbrev Same : Standing → List Alarm → Standing → List Alarm → Type 0
 Same s ents s' ents' = (s' ≡ s) × (ents' ≡ ents)
 
 -- a slip just given fits
-pub settled_fits : (t : Terms) (m r al : ℕ) (row : List ℕ) (play : Strategy) (ents : List AlarmView) (day count : ℕ) → (k : ℕ) → k ≡ class_of (length t.nulls) count →
+pub settled_fits : (t : Terms) (m r al : ℕ) (row : List ℕ) (play : Strategy) (ents : List Alarm) (day count : ℕ) → (k : ℕ) → k ≡ class_of (length t.nulls) count →
     settled_slip t (standing Staked m r al row play) ents day (record { tag = t.tag; number = r + 1; count = count })
     ≡ after_settle (Ok (rings t (standing Staked m r al row play) k)) day (settled t (standing Staked m r al row play) k) ents
 settled_fits t m r al row play ents day count k e =
@@ -35,7 +35,7 @@ settled_fits t m r al row play ents day count k e =
     let numbers : eqb (r + 1) (r + 1) ≡ true = grind (arith, nat_tests) in
     rw (tags, numbers, e) refl
 
-by_rounds : (t : Terms) (m r al : ℕ) (row : List ℕ) (play : Strategy) (ents : List AlarmView) (day count : ℕ) (f : ReplayFault) (s' : Standing) (ents' : List AlarmView) (b : Bool) →
+by_rounds : (t : Terms) (m r al : ℕ) (row : List ℕ) (play : Strategy) (ents : List Alarm) (day count : ℕ) (f : ReplayFault) (s' : Standing) (ents' : List Alarm) (b : Bool) →
     let s = standing Armed m r al row play in
     let o = cond b (outcome {X = Result OpenSlip MonitorFault} (Ok (record { tag = t.tag; number = r + 1 })) (staked s)) (outcome (Err Spent) s) in
     round (Err f) s' ents' ≡ shown t ents day count o.answer o.after → Same s ents s' ents'
@@ -43,14 +43,14 @@ by_rounds t m r al row play ents day count f s' ents' true e =
     absurd (refused_not_taken f s' _ ents' _ (e ∙ settled_fits t m r al (play []) play ents day count _ refl))
 by_rounds t m r al row play ents day count f s' ents' false e = (ap (λ x. x.standing) e, ap (λ x. x.alarms) e)
 
-in_state : (t : Terms) (st : State) (m r al : ℕ) (row : List ℕ) (play : Strategy) (ents : List AlarmView) (day count : ℕ) (f : ReplayFault) (s' : Standing) (ents' : List AlarmView) →
+in_state : (t : Terms) (st : State) (m r al : ℕ) (row : List ℕ) (play : Strategy) (ents : List Alarm) (day count : ℕ) (f : ReplayFault) (s' : Standing) (ents' : List Alarm) →
     round (Err f) s' ents' ≡ watched t (standing st m r al row play) ents day count → Same (standing st m r al row play) ents s' ents'
 in_state t Armed m r al row play ents day count f s' ents' e = by_rounds t m r al row play ents day count f s' ents' (ltb r 1000000) e
 in_state t Staked m r al row play ents day count f s' ents' e = (ap (λ x. x.standing) e, ap (λ x. x.alarms) e)
 in_state t Rung m r al row play ents day count f s' ents' e = (ap (λ x. x.standing) e, ap (λ x. x.alarms) e)
 
 -- a refused round leaves the monitor and the alarm book ents they were
-pub watched_refused : (t : Terms) (s : Standing) (ents : List AlarmView) (day count : ℕ) (f : ReplayFault) (s' : Standing) (ents' : List AlarmView) →
+pub watched_refused : (t : Terms) (s : Standing) (ents : List Alarm) (day count : ℕ) (f : ReplayFault) (s' : Standing) (ents' : List Alarm) →
     round (Err f) s' ents' ≡ watched t s ents day count → Same s ents s' ents'
 watched_refused t s ents day count f s' ents' e = in_state t s.state s.ledger s.rounds s.alarms s.row s.play ents day count f s' ents' e
 
@@ -60,10 +60,10 @@ goes_to_round t p w number day count Armed e calm later room = rw (later, ← e,
 goes_to_round t p w number day count Staked e calm later room = rw (later, ← e, room) refl
 goes_to_round t p w number day count Rung e calm later room = absurd (calm refl)
 
-abbrev watch : Standing → Rest → List AlarmView → List Unwatched → Watch
+abbrev watch : Standing → Rest → List Alarm → List Unwatched → Watch
 watch s rest ents us = record { standing = s; last = rest.last; counts = rest.counts; alarms = ents; unwatched = us }
 
-round_ends : (t : Terms) (s : Standing) (rest : Rest) (ents : List AlarmView) (us : List Unwatched) (day count : ℕ) (r : Result (Unit {0}) ReplayFault) (s' : Standing) (ents' : List AlarmView) (rest' : Rest) →
+round_ends : (t : Terms) (s : Standing) (rest : Rest) (ents : List Alarm) (us : List Unwatched) (day count : ℕ) (r : Result (Unit {0}) ReplayFault) (s' : Standing) (ents' : List Alarm) (rest' : Rest) →
     round r s' ents' ≡ watched t s ents day count → rest' ≡ moved_if r (behind_count day rest) rest → done r (watch s' rest' ents' us) ≡ watched_count t (watch s rest ents us) day count
 round_ends t s rest ents us day count (Ok tt) s' ents' rest' e moved =
     ap (λ x. done (Ok tt) (watch s' x ents' us)) moved ∙ ap (λ x. round_done (watch s rest ents us) day x.answer x.standing x.alarms) e
@@ -72,14 +72,8 @@ round_ends t s rest ents us day count (Err f) s' ents' rest' e moved =
     let back : watch s' rest' ents' us ≡ watch s rest ents us = rw (moved, same.0, same.1) refl in
     ap (done (Err f)) back ∙ ap (λ x. round_done (watch s rest ents us) day x.answer x.standing x.alarms) e
 
-pub armed_done : (t : Terms) (p : Places) (s : Standing) (rest : Rest) (ents : List AlarmView) (us : List Unwatched) (number day count : ℕ) (st : State) (r : Result (Unit {0}) ReplayFault) (s' : Standing) (ents' : List AlarmView) (rest' : Rest) →
+pub armed_done : (t : Terms) (p : Places) (s : Standing) (rest : Rest) (ents : List Alarm) (us : List Unwatched) (number day count : ℕ) (st : State) (r : Result (Unit {0}) ReplayFault) (s' : Standing) (ents' : List Alarm) (rest' : Rest) →
     st ≡ s.state → (st ≡ Rung → ⊥) → above rest.last day ≡ true → all_used p.alarms ents ≡ false →
     round r s' ents' ≡ watched t s ents day count → rest' ≡ moved_if r (behind_count day rest) rest → done r (watch s' rest' ents' us) ≡ count_read t p (watch s rest ents us) number day count
 armed_done t p s rest ents us number day count st r s' ents' rest' at calm later room e moved =
     round_ends t s rest ents us day count r s' ents' rest' e moved ∙ goes_to_round t p (watch s rest ents us) number day count st at calm later room
-
--- an entry's day is the day of what is read of it
-pub above_map : {X Y : Type 0} (f : X → Y) (key : Y → ℕ) (xs : List X) (d : ℕ) → above_in key (map f xs) d ≡ above_in (λ x. key (f x)) xs d
-above_map f key [] d = refl
-above_map f key (x ∷ []) d = refl
-above_map f key (x ∷ y ∷ xs) d = above_map f key (y ∷ xs) d

@@ -10,13 +10,13 @@ use Rattle.edetector.specs.declared.fault.MonitorFault.TheVariants.{NotArmed, Sp
 use Rattle.edetector.specs.Rules.{bet}
 use Rattle.edetector.specs.Tables.{class_of}
 use Rattle.edetector.specs.Bettors.{Strategy}
-use Rattle.edetector.specs.Ledger.{Terms, Standing, outcome, staked, settled, rings, rearming}
+use Rattle.edetector.specs.Ledger.{Terms, Standing, outcome, staked, settled, rings, rearm_outcome}
 use Rattle.edetector.specs.States.{is_staked}
 use Rattle.edetector.specs.View.{standing}
 use Rattle.plantlog.specs.Format.{Fields, Table, Setup, Alternative, Count, Rearm, End}
 use Rattle.daybook.specs.declared.entry.unwatched.Unwatched.{Unwatched}
 use Rattle.daybook.specs.Books.{all_used, above}
-use Rattle.daybook.specs.Entries.{AlarmView}
+use Rattle.daybook.specs.declared.entry.alarm.Alarm.{Alarm}
 use Rattle.playback.specs.declared.stop.ReplayFault.{ReplayFault}
 use Rattle.playback.specs.declared.stop.ReplayFault.TheVariants.{Record, Monitor, Book, NotAllowed, DayNotAbove, CountsDiffer, Trailing}
 use Rattle.playback.specs.declared.stop.Fault.{Fault}
@@ -105,7 +105,7 @@ begins t p f n rest at w w1 end e l c =
       reached = c.reached;
     }
 
-abbrev watch : Standing → Option ℕ → ℕ → List AlarmView → List Unwatched → Watch
+abbrev watch : Standing → Option ℕ → ℕ → List Alarm → List Unwatched → Watch
 watch s last counts ents us = record { standing = s; last = last; counts = counts; alarms = ents; unwatched = us }
 
 module _ (t : Terms) (p : Places) (n : ℕ) (rest : Stream) (ih : (at : Spot) (w : Watch) → WholeCourse t p rest at w (watching t p rest at w)) (at : Spot) (day count : ℕ) where
@@ -115,7 +115,7 @@ module _ (t : Terms) (p : Places) (n : ℕ) (rest : Stream) (ih : (at : Spot) (w
   stays : (w : Watch) (f : ReplayFault) → NoCount (free_in p w) w day f → On w (faulted w f)
   stays w f why = still t p (Next (Count day count) n rest) at w f why
 
-  module _ (m r al : ℕ) (row : List ℕ) (play : Strategy) (last : Option ℕ) (counts : ℕ) (ents : List AlarmView) (us : List Unwatched) (later : above last day ≡ true) where
+  module _ (m r al : ℕ) (row : List ℕ) (play : Strategy) (last : Option ℕ) (counts : ℕ) (ents : List Alarm) (us : List Unwatched) (later : above last day ≡ true) where
     abbrev armed : Watch
     armed = watch (standing Armed m r al row play) last counts ents us
 
@@ -169,7 +169,7 @@ module _ (t : Terms) (p : Places) (n : ℕ) (rest : Stream) (ih : (at : Spot) (w
       let leads : Leads t p (Count day count) at w w1 (Passed day at.number) = record { of = (count, refl, refl); rightly = (e, has_free p.unwatched (length w.unwatched) room); standing = refl; alarms = sym (append-nil w.alarms); unwatched = refl; heard = omega arith; settled = refl; counts = refl; last = refl; rising = (later, tt) } in
       begins t p (Count day count) n rest at w w1 _ (Passed day at.number) leads (ih (behind at n) w1)
 
-  in_state : (st : State) (m r al : ℕ) (row : List ℕ) (play : Strategy) (last : Option ℕ) (counts : ℕ) (ents : List AlarmView) (us : List Unwatched) → above last day ≡ true →
+  in_state : (st : State) (m r al : ℕ) (row : List ℕ) (play : Strategy) (last : Option ℕ) (counts : ℕ) (ents : List Alarm) (us : List Unwatched) → above last day ≡ true →
       On (watch (standing st m r al row play) last counts ents us) (by_state st t p (watch (standing st m r al row play) last counts ents us) at.number day count)
   in_state Armed m r al row play last counts ents us later = armed_course m r al row play last counts ents us later (all_used p.alarms ents) refl
   in_state Staked m r al row play last counts ents us later = staked_course (watch (standing Staked m r al row play) last counts ents us) refl later (all_used p.alarms ents) refl
@@ -183,13 +183,13 @@ module _ (t : Terms) (p : Places) (n : ℕ) (rest : Stream) (ih : (at : Spot) (w
   count_course w = by_day w (above w.last day) refl
 
 module _ (t : Terms) (p : Places) (n : ℕ) (rest : Stream) (ih : (at : Spot) (w : Watch) → WholeCourse t p rest at w (watching t p rest at w)) (at : Spot) where
-  rearms : (w w1 : Watch) → (w.standing.state ≡ Staked → ⊥) → w1 ≡ restood w (rearming t w.standing).after → Leads t p Rearm at w w1 Rearmed
+  rearms : (w w1 : Watch) → (w.standing.state ≡ Staked → ⊥) → w1 ≡ restood w (rearm_outcome t w.standing).after → Leads t p Rearm at w w1 Rearmed
   rearms w w1 calm e =
       let same = rearm_keeps t w.standing (is_staked w.standing.state) in
       rw e (record { of = refl; rightly = calm; standing = refl; alarms = sym (append-nil w.alarms); unwatched = sym (append-nil w.unwatched); heard = omega (arith, same.0); settled = omega (arith, same.1); counts = omega arith; last = refl; rising = tt })
 
   -- a rearm that is refused leaves the monitor as it was
-  rearm_course : (st : State) (m r al : ℕ) (row : List ℕ) (play : Strategy) (last : Option ℕ) (counts : ℕ) (ents : List AlarmView) (us : List Unwatched) →
+  rearm_course : (st : State) (m r al : ℕ) (row : List ℕ) (play : Strategy) (last : Option ℕ) (counts : ℕ) (ents : List Alarm) (us : List Unwatched) →
       let w = watch (standing st m r al row play) last counts ents us in
       let d = rearm_read t w in
       WholeCourse t p (Next Rearm n rest) at w (went at (watching t p rest (behind at n)) d.answer d.after)

@@ -3,9 +3,7 @@ use Rattle.std.proofs.Common.{◌≡◌, ℕ, true, List, [], length, Ok, Err, R
 use Rattle.edetector.specs.declared.fixed.Fixed.{Fixed as FixedBettor}
 use Rattle.edetector.specs.declared.adaptive.Adaptive.{Adaptive as AdaptiveBettor}
 use Rattle.edetector.specs.declared.mixture.Mixture.{Mixture as MixtureBettor}
-use Rattle.edetector.specs.declared.table.Table.{Table}
 use Rattle.edetector.specs.Tallies.{tally_of}
-use Rattle.edetector.specs.Weights.{null_weights, alternative_weights}
 use Rattle.edetector.specs.Bettors.{Strategy, fixed, adaptive, mixture, no_tally}
 use Rattle.plantlog.specs.declared.record.BettorChoice.TheVariants.{Adaptive}
 use Rattle.plantlog.specs.declared.record.Setup.{Setup}
@@ -21,13 +19,12 @@ use Rattle.playback.specs.Stream.{Stream, stream_of}
 use Rattle.playback.specs.Watch.{Places}
 use Rattle.playback.specs.Replaying.{Spot, behind, fault_in}
 use Rattle.playback.specs.Rest.{Rest, at_spot, behind_record}
-use Rattle.playback.specs.Replayed.{Replay, Unmade, head_of, taken_of, tail_of, with_record, monitored, play_of, has_alternative, as_many, alternative_of, alternative_for, after_setup, after_table, replayed}
-use Rattle.playback.specs.Told.{replay_told}
+use Rattle.playback.specs.Replayed.{Replay, replay_told, head_of, taken_of, tail_of, with_record, monitored, play_of, has_alternative, as_many, alternative_of, alternative_for, after_setup, after_table, replayed}
 use Rattle.playback.proofs.Steps.{streams, head_is}
 
 -- a fault before there is a monitor, with empty books
 abbrev pub unmade : Fault → Replay
-unmade f = record { said = Unmade f; alarms = []; unwatched = [] }
+unmade f = record { said = Err f; alarms = []; unwatched = [] }
 
 pub unmade_told : (r : Result Run Fault) (rest : Rest) (books : Books) (f : Fault) → r ≡ Err f → NothingYet rest books → replay_told r books.alarms.now books.unwatched.now ≡ unmade f
 unmade_told r rest books f is none = let a = none.alarms in let u = none.unwatched in rw (is, a, u) refl
@@ -111,10 +108,10 @@ pub header_taken : (p : Places) (rest rest1 rest2 : Rest) → rest1 ≡ behind_r
 header_taken p rest rest1 rest2 past past1 ws x e e1 = second_taken p rest1 rest2 past1 ws x e1 ∙ first_taken p rest rest1 past ws e
 
 -- what a mixture of the fixed and the adaptive bettor plays
-pub mixed_plays : (m : MixtureBettor FixedBettor AdaptiveBettor) (f : FixedBettor) (a : AdaptiveBettor) (n : Table 1) → m ≡ record { first = f; second = a } → f.null ≡ n → a.null ≡ n → tally_of a ≡ no_tally (length (null_weights n)) →
-    ◌≡◌ {A = Strategy} (mixture (null_weights m.first.null) (null_weights m.second.null) (fixed (null_weights m.first.null) (alternative_weights m.first.alternative)) (adaptive (null_weights m.second.null) (tally_of m.second)))
-    (mixture (null_weights n) (null_weights n) (fixed (null_weights n) (alternative_weights f.alternative)) (adaptive (null_weights n) (no_tally (length (null_weights n)))))
+pub mixed_plays : (m : MixtureBettor FixedBettor AdaptiveBettor) (f : FixedBettor) (a : AdaptiveBettor) (n : List ℕ) → m ≡ record { first = f; second = a } → f.null ≡ n → a.null ≡ n → tally_of a ≡ no_tally (length n) →
+    ◌≡◌ {A = Strategy} (mixture m.first.null m.second.null (fixed m.first.null m.first.alternative) (adaptive m.second.null (tally_of m.second)))
+    (mixture n n (fixed n f.alternative) (adaptive n (no_tally (length n))))
 mixed_plays m f a n made e1 e2 e3 =
-    ap (λ x. mixture (null_weights x.first.null) (null_weights x.second.null) (fixed (null_weights x.first.null) (alternative_weights x.first.alternative)) (adaptive (null_weights x.second.null) (tally_of x.second))) made
-    ∙ ap (λ x. mixture (null_weights x) (null_weights a.null) (fixed (null_weights x) (alternative_weights f.alternative)) (adaptive (null_weights a.null) (tally_of a))) e1
-    ∙ ap₂ (λ x y. mixture (null_weights n) (null_weights x) (fixed (null_weights n) (alternative_weights f.alternative)) (adaptive (null_weights x) y)) e2 e3
+    ap (λ x. mixture x.first.null x.second.null (fixed x.first.null x.first.alternative) (adaptive x.second.null (tally_of x.second))) made
+    ∙ ap (λ x. mixture x a.null (fixed x f.alternative) (adaptive a.null (tally_of a))) e1
+    ∙ ap₂ (λ x y. mixture n x (fixed n f.alternative) (adaptive x y)) e2 e3

@@ -1,9 +1,10 @@
 -- The bound of the plan of a replay is that of every plan: the rules are modest, and the bettors fair.
-use Rattle.std.specs.Prelude.{◌≡◌, ℕ, zero, suc, ◌+◌, ◌^◌, ◌<◌, ◌≤◌, max, List, length, replicate, None, nat_lt, refl}
+use Rattle.std.specs.Prelude.{◌≡◌, ℕ, zero, suc, ◌+◌, ◌^◌, ◌<◌, ◌≤◌, max, List, length, replicate, sum, None, nat_lt, refl}
 use Rattle.std.proofs.Common.{ap, arith}
-use Rattle.std.proofs.lemmas.Bool.{and_parts, cond_both, leb-true}
+use Rattle.std.proofs.lemmas.Bool.{cond_both}
 use Rattle.edetector.specs.Rules.{bet}
-use Rattle.edetector.specs.Tables.{total, table_fault}
+use Rattle.edetector.specs.Tables.{table_fault}
+use Rattle.edetector.specs.Lemmas.Limits.{sum_cons, table_limits}
 use Rattle.edetector.specs.Bettors.{fixed, adaptive, no_tally}
 use Rattle.edetector.specs.Ledger.{fresh}
 use Rattle.edetector.specs.View.{terms}
@@ -15,8 +16,6 @@ use Rattle.plantlog.specs.declared.record.BettorChoice.{BettorChoice}
 use Rattle.plantlog.specs.declared.record.BettorChoice.TheVariants.{Fixed, Adaptive, Mixture}
 use Rattle.plantlog.specs.declared.record.RuleChoice.{RuleChoice}
 use Rattle.plantlog.specs.declared.record.RuleChoice.TheVariants.{ShiryaevRoberts, Page}
-use Rattle.plantlog.specs.Format.{of_value}
-use Rattle.plantlog.proofs.WriteFacts.{unbroken}
 use Rattle.playback.specs.Replayed.{rule_base, play_of}
 use Rattle.playback.specs.Planned.{calls_before}
 use Rattle.playback.specs.Promised.{WithinLimits, Promised}
@@ -26,31 +25,31 @@ modest ShiryaevRoberts m = cond_both (nat_lt (2 ^ 32) m) m (m + bet) (λ b. b �
 modest Page m = cond_both (nat_lt (2 ^ 32) m) m (max m bet) (λ b. b ≤ m + bet) (λ over. omega arith) (λ begun. omega arith)
 
 -- a table within its limits has some weight
-some_weight : (low : ℕ) (ws : List ℕ) → table_fault low ws ≡ None → 0 < total ws
-some_weight low ws e = leb-true 1 (total ws) (and_parts _ _ (unbroken low ws (ap of_value e)).sum).0
+some_weight : (low : ℕ) (ws : List ℕ) → table_fault low ws ≡ None → 0 < sum ws
+some_weight low ws e = (table_limits low ws e).heavy
 
-none_counted : (classes : ℕ) → total (replicate classes 0) ≡ 0
+none_counted : (classes : ℕ) → sum (replicate classes 0) ≡ 0
 none_counted zero = refl
-none_counted (suc n) = omega (arith, none_counted n)
+none_counted (suc n) = omega (arith, none_counted n, sum_cons 0 (replicate n 0))
 
 none_long : (classes : ℕ) → length (replicate {A = ℕ} classes 0) ≡ classes
 none_long zero = refl
 none_long (suc n) = ap suc (none_long n)
 
-module _ (ws : List ℕ) (pos : 0 < total ws) where
+module _ (ws : List ℕ) (pos : 0 < sum ws) where
   nothing_learned : Adds ws (no_tally (length ws))
   nothing_learned = (none_long (length ws), none_counted (length ws))
 
   adaptive_plays : PlaysFair ws (adaptive ws (no_tally (length ws)))
   adaptive_plays = adaptive_fair ws (no_tally (length ws)) pos nothing_learned
 
-  module _ (alts : List ℕ) (level : length alts ≡ length ws) (some : 0 < total alts) where
+  module _ (alts : List ℕ) (level : length alts ≡ length ws) (some : 0 < sum alts) where
     fixed_plays : PlaysFair ws (fixed ws alts)
-    fixed_plays later = ratios_fair (total alts) ws alts level some (omega arith)
+    fixed_plays later = ratios_fair (sum alts) ws alts level some (omega arith)
 
     mixture_plays : PlaysFair ws (play_of Mixture ws alts)
     mixture_plays later =
-        mixed_fair ws ws (fixed ws alts later) (adaptive ws (no_tally (length ws)) later) (ratios_long (total ws) (total alts) ws alts level) (adaptive_long ws (no_tally (length ws)) nothing_learned later) (fixed_plays later) (adaptive_plays later)
+        mixed_fair ws ws (fixed ws alts later) (adaptive ws (no_tally (length ws)) later) (ratios_long (sum ws) (sum alts) ws alts level) (adaptive_long ws (no_tally (length ws)) nothing_learned later) (fixed_plays later) (adaptive_plays later)
 
 plays_fair : (bettor : BettorChoice) (ws alts : List ℕ) → WithinLimits ws bettor alts → PlaysFair ws (play_of bettor ws alts)
 plays_fair Fixed ws alts ok = fixed_plays ws (some_weight 1 ws ok.null) alts (ok.level refl) (some_weight 0 alts (ok.alternative refl))

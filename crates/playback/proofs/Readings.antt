@@ -10,12 +10,12 @@ use Rattle.edetector.specs.declared.fault.MonitorFault.TheVariants.{NotArmed, Sp
 use Rattle.edetector.specs.Rules.{bet}
 use Rattle.edetector.specs.Tables.{class_of}
 use Rattle.edetector.specs.Bettors.{Strategy}
-use Rattle.edetector.specs.Ledger.{Terms, outcome, staked, settled, rings, rearming}
+use Rattle.edetector.specs.Ledger.{Terms, outcome, staked, settled, rings, rearm_outcome}
 use Rattle.edetector.specs.View.{standing}
 use Rattle.daybook.specs.declared.fault.BookFault.TheVariants.{Full}
 use Rattle.daybook.specs.declared.entry.unwatched.Unwatched.{Unwatched}
 use Rattle.daybook.specs.Books.{all_used, above}
-use Rattle.daybook.specs.Entries.{AlarmView}
+use Rattle.daybook.specs.declared.entry.alarm.Alarm.{Alarm}
 use Rattle.playback.specs.declared.stop.ReplayFault.{ReplayFault}
 use Rattle.playback.specs.declared.stop.ReplayFault.TheVariants.{Monitor, Book, DayNotAbove}
 use Rattle.playback.specs.Watch.{Watch, Places, taken, faulted, counted, alarm_if, shown, round_done, watched_count, passed, by_state, count_read, restood, rearm_read}
@@ -35,7 +35,7 @@ led t w e = record {
 
 -- a count that is taken
 module _ (t : Terms) (p : Places) (number day count : ℕ) where
-  armed_read : (m r al : ℕ) (row : List ℕ) (play : Strategy) (last : Option ℕ) (counts : ℕ) (ents : List AlarmView) (us : List Unwatched) →
+  armed_read : (m r al : ℕ) (row : List ℕ) (play : Strategy) (last : Option ℕ) (counts : ℕ) (ents : List Alarm) (us : List Unwatched) →
       let w : Watch = record { standing = standing Armed m r al row play; last = last; counts = counts; alarms = ents; unwatched = us } in
       above last day ≡ true → all_used p.alarms ents ≡ false → ltb r 1000000 ≡ true → count_read t p w number day count ≡ taken (led t w (Settled day count))
   armed_read m r al row play last counts ents us rises room left =
@@ -53,7 +53,7 @@ module _ (t : Terms) (p : Places) (number day count : ℕ) where
       ∙ ap₂ (λ a u. taken (counted w day after a u)) (alarm_behind rang day after ents ∙ ap (λ s. ents ++ alarm_if (leb (t.threshold * bet) s.ledger) day s []) (sym next_is)) (sym (append-nil us))
       ∙ ap (λ s. taken (counted w day s (ents ++ alarm_of t w.standing (Settled day count)) (us ++ []))) (sym next_is)
 
-  pub settled_read : (st : State) (m r al : ℕ) (row : List ℕ) (play : Strategy) (last : Option ℕ) (counts : ℕ) (ents : List AlarmView) (us : List Unwatched) →
+  pub settled_read : (st : State) (m r al : ℕ) (row : List ℕ) (play : Strategy) (last : Option ℕ) (counts : ℕ) (ents : List Alarm) (us : List Unwatched) →
       let w : Watch = record { standing = standing st m r al row play; last = last; counts = counts; alarms = ents; unwatched = us } in
       st ≡ Armed → above last day ≡ true → all_used p.alarms ents ≡ false → ltb r 1000000 ≡ true → count_read t p w number day count ≡ taken (led t w (Settled day count))
   settled_read Armed m r al row play last counts ents us is rises room left = armed_read m r al row play last counts ents us rises room left
@@ -74,14 +74,14 @@ module _ (t : Terms) (p : Places) (number day count : ℕ) where
   full_read w Staked none = ap (λ b. cond b (faulted w (Book Full)) (watched_count t w day count)) (no_place p.alarms (length w.alarms) none)
   full_read w Rung none = ap (λ b. cond b (faulted w (Book Full)) (passed w number day)) (no_place p.unwatched (length w.unwatched) none)
 
-  staked_read : (st : State) (m r al : ℕ) (row : List ℕ) (play : Strategy) (last : Option ℕ) (counts : ℕ) (ents : List AlarmView) (us : List Unwatched) →
+  staked_read : (st : State) (m r al : ℕ) (row : List ℕ) (play : Strategy) (last : Option ℕ) (counts : ℕ) (ents : List Alarm) (us : List Unwatched) →
       let w : Watch = record { standing = standing st m r al row play; last = last; counts = counts; alarms = ents; unwatched = us } in
       st ≡ Staked → watched_count t w day count ≡ faulted w (Monitor NotArmed)
   staked_read Armed m r al row play last counts ents us is = cc
   staked_read Staked m r al row play last counts ents us is = refl
   staked_read Rung m r al row play last counts ents us is = cc
 
-  spent_read : (st : State) (m r al : ℕ) (row : List ℕ) (play : Strategy) (last : Option ℕ) (counts : ℕ) (ents : List AlarmView) (us : List Unwatched) →
+  spent_read : (st : State) (m r al : ℕ) (row : List ℕ) (play : Strategy) (last : Option ℕ) (counts : ℕ) (ents : List Alarm) (us : List Unwatched) →
       let w : Watch = record { standing = standing st m r al row play; last = last; counts = counts; alarms = ents; unwatched = us } in
       st ≡ Armed → ltb r 1000000 ≡ false → watched_count t w day count ≡ faulted w (Monitor Spent)
   spent_read Armed m r al row play last counts ents us is spent =
@@ -108,20 +108,20 @@ module _ (t : Terms) (p : Places) (number day count : ℕ) where
 
 -- a rearm
 module _ (t : Terms) where
-  pub rearm_taken : (st : State) (m r al : ℕ) (row : List ℕ) (play : Strategy) (last : Option ℕ) (counts : ℕ) (ents : List AlarmView) (us : List Unwatched) →
+  pub rearm_taken : (st : State) (m r al : ℕ) (row : List ℕ) (play : Strategy) (last : Option ℕ) (counts : ℕ) (ents : List Alarm) (us : List Unwatched) →
       let w : Watch = record { standing = standing st m r al row play; last = last; counts = counts; alarms = ents; unwatched = us } in
-      (st ≡ Staked → ⊥) → rearm_read t w ≡ taken (restood w (rearming t w.standing).after)
+      (st ≡ Staked → ⊥) → rearm_read t w ≡ taken (restood w (rearm_outcome t w.standing).after)
   rearm_taken Armed m r al row play last counts ents us calm = refl
   rearm_taken Staked m r al row play last counts ents us calm = absurd (calm refl)
   rearm_taken Rung m r al row play last counts ents us calm = refl
 
-  pub rearm_led : (w : Watch) → restood w (rearming t w.standing).after ≡ led t w Rearmed
+  pub rearm_led : (w : Watch) → restood w (rearm_outcome t w.standing).after ≡ led t w Rearmed
   rearm_led w =
       let none : w.counts ≡ w.counts + 0 = omega arith in
-      ap (λ c. record { standing = (rearming t w.standing).after; last = w.last; counts = c; alarms = w.alarms; unwatched = w.unwatched }) none
-      ∙ ap₂ (λ a u. record { standing = (rearming t w.standing).after; last = w.last; counts = w.counts + 0; alarms = a; unwatched = u }) (sym (append-nil w.alarms)) (sym (append-nil w.unwatched))
+      ap (λ c. record { standing = (rearm_outcome t w.standing).after; last = w.last; counts = c; alarms = w.alarms; unwatched = w.unwatched }) none
+      ∙ ap₂ (λ a u. record { standing = (rearm_outcome t w.standing).after; last = w.last; counts = w.counts + 0; alarms = a; unwatched = u }) (sym (append-nil w.alarms)) (sym (append-nil w.unwatched))
 
-  pub rearm_refused : (st : State) (m r al : ℕ) (row : List ℕ) (play : Strategy) (last : Option ℕ) (counts : ℕ) (ents : List AlarmView) (us : List Unwatched) →
+  pub rearm_refused : (st : State) (m r al : ℕ) (row : List ℕ) (play : Strategy) (last : Option ℕ) (counts : ℕ) (ents : List Alarm) (us : List Unwatched) →
       let w : Watch = record { standing = standing st m r al row play; last = last; counts = counts; alarms = ents; unwatched = us } in
       st ≡ Staked → rearm_read t w ≡ faulted w (Monitor NotArmed)
   rearm_refused Armed m r al row play last counts ents us is = cc

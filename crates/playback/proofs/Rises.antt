@@ -7,13 +7,13 @@ use Rattle.edetector.specs.declared.slip.OpenSlip.{OpenSlip}
 use Rattle.edetector.specs.declared.slip.ShownSlip.{ShownSlip}
 use Rattle.edetector.specs.declared.fault.MonitorFault.{MonitorFault}
 use Rattle.edetector.specs.declared.fault.Refused.{Refused}
-use Rattle.edetector.specs.Ledger.{Terms, Standing, staking, settling}
+use Rattle.edetector.specs.Ledger.{Terms, Standing, stake_outcome, settle_outcome}
 use Rattle.playback.specs.declared.stop.ReplayFault.{ReplayFault}
 use Rattle.playback.specs.declared.stop.ReplayFault.TheVariants.{Book, DayNotAbove}
 use Rattle.daybook.specs.declared.fault.BookFault.TheVariants.{Full}
 use Rattle.daybook.specs.declared.entry.unwatched.Unwatched.{Unwatched}
 use Rattle.daybook.specs.Books.{all_used, above, above_in}
-use Rattle.daybook.specs.Entries.{AlarmView}
+use Rattle.daybook.specs.declared.entry.alarm.Alarm.{Alarm}
 use Rattle.playback.specs.Rising.{Later, Rising}
 use Rattle.playback.specs.Watch.{Watch, Places, Done, done, faulted, counted, after_settle, shown, watched, round_done, by_state, count_read}
 
@@ -41,23 +41,23 @@ grown_later : {X : Type 0} (key : X → ℕ) (last : Option ℕ) (day : ℕ) (xs
 grown_later key last day xs ys h all (inl e) = rw e (later_same key last day xs h all)
 grown_later key last day xs ys h all (inr g) = let e = g.2 in rw e (later_push key day xs g.0 g.1)
 
-settle_grown : (x : Result Bool (Refused ShownSlip)) (day : ℕ) (s : Standing) (ents : List AlarmView) → Grown (λ a. a.day) day ents (after_settle x day s ents).alarms
+settle_grown : (x : Result Bool (Refused ShownSlip)) (day : ℕ) (s : Standing) (ents : List Alarm) → Grown (λ a. a.day) day ents (after_settle x day s ents).alarms
 settle_grown (Ok true) day s ents = inr (record { day = day; round = s.rounds; ledger = s.ledger }, refl, refl)
 settle_grown (Ok false) day s ents = inl refl
 settle_grown (Err r) day s ents = inl refl
 
-shown_grown : (t : Terms) (ents : List AlarmView) (day count : ℕ) (x : Result OpenSlip MonitorFault) (s : Standing) → Grown (λ a. a.day) day ents (shown t ents day count x s).alarms
+shown_grown : (t : Terms) (ents : List Alarm) (day count : ℕ) (x : Result OpenSlip MonitorFault) (s : Standing) → Grown (λ a. a.day) day ents (shown t ents day count x s).alarms
 shown_grown t ents day count (Ok slip) s =
-    let o = settling t s (record { tag = slip.tag; number = slip.number; count = count }) in settle_grown o.answer day o.after ents
+    let o = settle_outcome t s (record { tag = slip.tag; number = slip.number; count = count }) in settle_grown o.answer day o.after ents
 shown_grown t ents day count (Err f) s = inl refl
 
-watched_grown : (t : Terms) (s : Standing) (ents : List AlarmView) (day count : ℕ) → Grown (λ a. a.day) day ents (watched t s ents day count).alarms
-watched_grown t s ents day count = let o = staking t s in shown_grown t ents day count o.answer o.after
+watched_grown : (t : Terms) (s : Standing) (ents : List Alarm) (day count : ℕ) → Grown (λ a. a.day) day ents (watched t s ents day count).alarms
+watched_grown t s ents day count = let o = stake_outcome t s in shown_grown t ents day count o.answer o.after
 
 -- a count that was taken is dealt with, and each book grows by its day at most
 abbrev Taken : Watch → ℕ → Watch → Type 0
 Taken w day w' =
-    (s : Standing) × (ents : List AlarmView) × (us : List Unwatched)
+    (s : Standing) × (ents : List Alarm) × (us : List Unwatched)
     × (w' ≡ counted w day s ents us) × Grown (λ a. a.day) day w.alarms ents × Grown (λ u. u.day) day w.unwatched us
 
 taken_not_faulted : (w w' : Watch) (f : ReplayFault) → done (Ok tt) w' ≡ faulted w f → ⊥
@@ -65,7 +65,7 @@ taken_not_faulted w w' f e =
     let told : ◌≡◌ {A = Result (Unit {0}) ReplayFault} (Ok tt) (Err f) = ap (λ d. d.answer) e in
     cc
 
-by_answer : (w w' : Watch) (day : ℕ) (x : Result (Unit {0}) ReplayFault) (s : Standing) (ents : List AlarmView) → Grown (λ a. a.day) day w.alarms ents → done (Ok tt) w' ≡ round_done w day x s ents → Taken w day w'
+by_answer : (w w' : Watch) (day : ℕ) (x : Result (Unit {0}) ReplayFault) (s : Standing) (ents : List Alarm) → Grown (λ a. a.day) day w.alarms ents → done (Ok tt) w' ≡ round_done w day x s ents → Taken w day w'
 by_answer w w' day (Ok u) s ents g e = (s, ents, w.unwatched, ap (λ d. d.after) e, g, inl refl)
 by_answer w w' day (Err f) s ents g e = absurd (taken_not_faulted w w' f e)
 

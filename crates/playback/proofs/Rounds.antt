@@ -14,7 +14,7 @@ use Rattle.edetector.specs.Tables.{class_of}
 use Rattle.edetector.specs.Bettors.{Strategy}
 use Rattle.edetector.specs.Ledger.{Terms, Standing, outcome, staked, settled, rings, rearmed}
 use Rattle.edetector.specs.View.{standing}
-use Rattle.daybook.specs.Entries.{AlarmView}
+use Rattle.daybook.specs.declared.entry.alarm.Alarm.{Alarm}
 use Rattle.playback.specs.Watch.{alarm_if}
 use Rattle.playback.specs.Course.{Settled, after_event}
 
@@ -45,7 +45,7 @@ unlike counts n differ true e = absurd (differ (eqb-true counts n e))
 unlike counts n differ false e = e
 
 -- an alarm is put behind those before it
-pub alarm_behind : (b : Bool) (day : ℕ) (s : Standing) (ents : List AlarmView) → alarm_if b day s ents ≡ ents ++ alarm_if b day s []
+pub alarm_behind : (b : Bool) (day : ℕ) (s : Standing) (ents : List Alarm) → alarm_if b day s ents ≡ ents ++ alarm_if b day s []
 alarm_behind true day s ents = refl
 alarm_behind false day s ents = sym (append-nil ents)
 

@@ -10,7 +10,7 @@ use Rattle.edetector.specs.Rules.{bet}
 use Rattle.edetector.specs.States.{is_staked}
 use Rattle.edetector.specs.Tables.{class_of, from_to}
 use Rattle.edetector.specs.Bettors.{Strategy}
-use Rattle.edetector.specs.Ledger.{Terms, Standing, rings, rearming}
+use Rattle.edetector.specs.Ledger.{Terms, Standing, rings, rearm_outcome}
 use Rattle.edetector.specs.View.{terms, standing}
 use Rattle.plantlog.specs.declared.record.Setup.{Setup as SetupValue}
 use Rattle.plantlog.specs.Calls.{span}
@@ -65,7 +65,7 @@ after_settled t Armed m r al row play day count is left =
     (λ e. calm_by rang (sym (ap (λ s. s.state) next_is) ∙ e), ap (λ s. s.rounds) next_is)
 after_settled t _ m r al row play day count is left = cc
 
-after_rearm : (t : Terms) (st : State) (m r al : ℕ) (row : List ℕ) (play : Strategy) → (st ≡ Staked → ⊥) → (rearming t (standing st m r al row play)).after.state ≡ Staked → ⊥
+after_rearm : (t : Terms) (st : State) (m r al : ℕ) (row : List ℕ) (play : Strategy) → (st ≡ Staked → ⊥) → (rearm_outcome t (standing st m r al row play)).after.state ≡ Staked → ⊥
 after_rearm t Armed m r al row play calm e = cc
 after_rearm t Staked m r al row play calm e = calm refl
 after_rearm t Rung m r al row play calm e = cc
@@ -136,8 +136,8 @@ module _ (t : Terms) (p : Places) where
       let s = w.standing in
       let read = rearm_taken t s.state s.ledger s.rounds s.alarms s.row s.play w.last w.counts w.alarms w.unwatched fine.calm in
       let same = rearm_keeps t s (is_staked s.state) in
-      goes_on Rearm fs writable at w (restood w (rearming t s).after) _ (λ k rest. refl) read
-      (ih _ (restood w (rearming t s).after) ordered (record {
+      goes_on Rearm fs writable at w (restood w (rearm_outcome t s).after) _ (λ k rest. refl) read
+      (ih _ (restood w (rearm_outcome t s).after) ordered (record {
         calm = after_rearm t s.state s.ledger s.rounds s.alarms s.row s.play fine.calm;
         rounds = omega (arith, same.1, fine.rounds);
         alarms = fine.alarms;

@@ -1,18 +1,20 @@
 -- What a log says that is replayed without a fault.
-use Rattle.std.specs.Prelude.{◌≡◌, ℕ, ◌+◌, ◌≤◌, true, false, List, [], ◌∷◌, length, Some, None, Option}
+use Rattle.std.specs.Prelude.{◌≡◌, ℕ, ◌+◌, ◌≤◌, true, false, List, [], ◌∷◌, length, Some, None, Ok, Err, Option, Result}
 use Rattle.plantlog.specs.declared.record.BettorChoice.{BettorChoice}
 use Rattle.plantlog.specs.Format.{Fields, Table, Setup, Alternative, Count, Rearm, End}
 use Rattle.plantlog.specs.Laws.{AllWritable, log_bytes}
 use Rattle.daybook.specs.Books.{above}
+use Rattle.playback.specs.declared.report.Run.{Run}
+use Rattle.playback.specs.declared.stop.Fault.{Fault}
 use Rattle.playback.specs.Front.{bettor_named}
-use Rattle.playback.specs.Replayed.{Said, Unmade, Made, has_alternative, replay_of}
+use Rattle.playback.specs.Replayed.{has_alternative, replay_of}
 use Rattle.playback.specs.Replaying.{longest}
 use Rattle.playback.specs.Watch.{Places}
 
 -- a monitor was made, and nothing stopped the replay
-abbrev pub NoFault : Said → Type 0
-NoFault (Unmade f) = ⊥
-NoFault (Made classes total threshold rule told fault) = fault ≡ None
+abbrev pub NoFault : Result Run Fault → Type 0
+NoFault (Err f) = ⊥
+NoFault (Ok run) = run.fault ≡ None
 
 -- behind so many counts, the last of a day: counts whose days rise, and rearms, in any number, then one end, which names
 -- how many counts there were

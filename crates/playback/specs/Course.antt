@@ -3,8 +3,8 @@ use Rattle.std.specs.Prelude.{◌≡◌, ℕ, ◌+◌, ◌-◌, ◌*◌, ◌/◌
 use Rattle.edetector.specs.declared.state.State.{State}
 use Rattle.edetector.specs.declared.state.State.TheVariants.{Armed, Staked, Rung}
 use Rattle.edetector.specs.Rules.{bet}
-use Rattle.edetector.specs.Tables.{class_of, par}
-use Rattle.edetector.specs.Ledger.{Terms, Standing, staking, rearming}
+use Rattle.edetector.specs.Tables.{class_of, unit_factor}
+use Rattle.edetector.specs.Ledger.{Terms, Standing, stake_outcome, rearm_outcome}
 use Rattle.edetector.specs.States.{most_rounds}
 use Rattle.edetector.specs.Plans.{next}
 use Rattle.edetector.specs.declared.fault.MonitorFault.TheVariants.{NotArmed, Spent}
@@ -13,7 +13,7 @@ use Rattle.plantlog.specs.Format.{Fields, Count, Rearm, End}
 use Rattle.daybook.specs.declared.fault.BookFault.TheVariants.{Full}
 use Rattle.daybook.specs.declared.entry.unwatched.Unwatched.{Unwatched}
 use Rattle.daybook.specs.Books.{above}
-use Rattle.daybook.specs.Entries.{AlarmView}
+use Rattle.daybook.specs.declared.entry.alarm.Alarm.{Alarm}
 use Rattle.playback.specs.declared.stop.ReplayFault.{ReplayFault}
 use Rattle.playback.specs.declared.stop.ReplayFault.TheVariants.{Record, Monitor, Book, NotAllowed, DayNotAbove, CountsDiffer, Trailing}
 use Rattle.playback.specs.declared.stop.Fault.{Fault}
@@ -29,21 +29,21 @@ pub data Event : Type 0 where
 
 -- the monitor after an event; a settled count is staked on first
 abbrev pub after_event : Terms → Standing → Event → Standing
-after_event t s (Settled day count) = (next t (staking t s).after count).after
+after_event t s (Settled day count) = (next t (stake_outcome t s).after count).after
 after_event t s (Passed day number) = s
-after_event t s Rearmed = (rearming t s).after
+after_event t s Rearmed = (rearm_outcome t s).after
 
 abbrev pub after_all : Terms → Standing → List Event → Standing
 after_all t s [] = s
 after_all t s (e ∷ es) = after_all t (after_event t s e) es
 
 -- the settled counts whose ledger came to the threshold, with day, round and ledger
-abbrev pub alarm_of : Terms → Standing → Event → List AlarmView
+abbrev pub alarm_of : Terms → Standing → Event → List Alarm
 alarm_of t s (Settled day count) =
     let after = after_event t s (Settled day count) in alarm_if (nat_le (t.threshold * bet) after.ledger) day after []
 alarm_of t s _ = []
 
-abbrev pub alarms_of : Terms → Standing → List Event → List AlarmView
+abbrev pub alarms_of : Terms → Standing → List Event → List Alarm
 alarms_of t s [] = []
 alarms_of t s (e ∷ es) = alarm_of t s e ++ alarms_of t (after_event t s e) es
 
@@ -84,7 +84,7 @@ free_after t s free e = record { alarms = free.alarms - length (alarm_of t s e);
 
 -- the ledger of a round by the restart rule's recursion: the base of the ledger times the factor of the row now
 abbrev pub recursion : Terms → Standing → ℕ → ℕ
-recursion t s count = (t.base s.ledger * slice_index (s.play []) (class_of (length t.nulls) count)) / par
+recursion t s count = (t.base s.ledger * slice_index (s.play []) (class_of (length t.nulls) count)) / unit_factor
 
 -- a count is settled while the monitor is armed and has rounds left, by the recursion, and passed over while it rings;
 -- the book that it may need has a free place. A rearm is taken unless a bet is staked

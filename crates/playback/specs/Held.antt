@@ -1,21 +1,17 @@
 -- What the books hold, as plain data.
-use Rattle.std.specs.Prelude.{◌≡◌, ◌≤◌, List, [], map, length, None}
+use Rattle.std.specs.Prelude.{◌≡◌, ◌≤◌, [], length, None}
 use Rattle.daybook.specs.declared.book.Book.{Book}
 use Rattle.daybook.specs.declared.entry.alarm.Alarm.{Alarm}
 use Rattle.daybook.specs.declared.entry.unwatched.Unwatched.{Unwatched}
 use Rattle.edetector.specs.Ledger.{Standing}
 use Rattle.daybook.specs.Books.{entries_of, places_of, Keeps}
-use Rattle.daybook.specs.Entries.{AlarmView, alarm_view}
 use Rattle.playback.specs.declared.books.Books.{Books}
 use Rattle.playback.specs.Rest.{Rest}
 use Rattle.playback.specs.Watch.{Watch, Places}
 
-abbrev pub alarms_in : Book Alarm → List AlarmView
-alarms_in b = map alarm_view (entries_of b)
-
 -- the replay's state, from its parts
 abbrev pub watch_of : Standing → Rest → Books → Watch
-watch_of s rest books = record { standing = s; last = rest.last; counts = rest.counts; alarms = alarms_in books.alarms.now; unwatched = entries_of books.unwatched.now }
+watch_of s rest books = record { standing = s; last = rest.last; counts = rest.counts; alarms = entries_of books.alarms.now; unwatched = entries_of books.unwatched.now }
 
 abbrev pub places_in : Book Alarm → Book Unwatched → Places
 places_in alarms unwatched = record { alarms = places_of alarms; unwatched = places_of unwatched }

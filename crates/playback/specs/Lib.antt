@@ -14,5 +14,4 @@ pub mod Rising
 pub mod Stepping
 pub mod Stops
 pub mod Stream
-pub mod Told
 pub mod Watch

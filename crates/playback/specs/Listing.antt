@@ -1,27 +1,28 @@
 -- The listing of a replay, line by line.
-use Rattle.std.specs.Prelude.{ℕ, List, [], ◌++◌, length, Some, None, Option}
-use Rattle.edetector.specs.Ledger.{Told}
+use Rattle.std.specs.Prelude.{ℕ, List, [], ◌++◌, length, Some, None, Ok, Err, Option, Result}
+use Rattle.edetector.specs.declared.monitor.Reading.{Reading}
 use Rattle.daybook.specs.Lines.{monitor_line, alarm_line, unwatched_line, end_line, fault_line, ended_line, lines}
+use Rattle.playback.specs.declared.report.Run.{Run}
 use Rattle.playback.specs.declared.stop.Fault.{Fault}
 use Rattle.playback.specs.Stops.{stop_number, stop_layer}
-use Rattle.playback.specs.Replayed.{Said, Unmade, Made, Replay}
+use Rattle.playback.specs.Replayed.{Replay}
 
 -- the line of the monitor, once it is made
-abbrev pub monitor_part : Said → List ℕ
-monitor_part (Unmade f) = []
-monitor_part (Made classes total threshold rule told fault) = ended_line (monitor_line classes total threshold rule)
+abbrev pub monitor_part : Result Run Fault → List ℕ
+monitor_part (Err f) = []
+monitor_part (Ok run) = ended_line (monitor_line run.classes run.total run.threshold run.rule)
 
 abbrev pub fault_text : Fault → List ℕ
 fault_text f = fault_line (stop_number f.cause) f.«record» f.byte (stop_layer f.cause)
 
-abbrev pub ending : Told → ℕ → Option Fault → List ℕ
-ending told unwatched None = end_line told.rounds told.alarms unwatched
-ending told unwatched (Some f) = fault_text f
+abbrev pub ending : Reading → ℕ → Option Fault → List ℕ
+ending last unwatched None = end_line last.rounds last.alarms unwatched
+ending last unwatched (Some f) = fault_text f
 
 -- the last line: the end, or the fault
-abbrev pub last_part : Said → ℕ → List ℕ
-last_part (Unmade f) unwatched = ended_line (fault_text f)
-last_part (Made classes total threshold rule told fault) unwatched = ended_line (ending told unwatched fault)
+abbrev pub last_part : Result Run Fault → ℕ → List ℕ
+last_part (Err f) unwatched = ended_line (fault_text f)
+last_part (Ok run) unwatched = ended_line (ending run.last unwatched run.fault)
 
 abbrev pub listing_of : Replay → List ℕ
 listing_of r =

@@ -1,10 +1,10 @@
 -- A whole replay: the header, then counts and rearms to the end.
-use Rattle.std.specs.Prelude.{ℕ, Bool, true, false, if◌then◌else◌, List, [], length, None, Ok, Err, Option, Result, ◌==◌, nat_le}
+use Rattle.std.specs.Prelude.{ℕ, Bool, true, false, if◌then◌else◌, List, [], length, sum, None, Ok, Err, Result, ◌==◌, nat_le}
 use Rattle.edetector.specs.declared.value.ValueFault.TheVariants.{Alternative as UnlikeClasses, Threshold}
-use Rattle.edetector.specs.Tables.{total, from_to}
+use Rattle.edetector.specs.Tables.{from_to}
 use Rattle.edetector.specs.Rules.{shiryaev_roberts, page}
 use Rattle.edetector.specs.Bettors.{Strategy, fixed, adaptive, mixture, no_tally}
-use Rattle.edetector.specs.Ledger.{Terms, Told, fresh, reading}
+use Rattle.edetector.specs.Ledger.{Terms, fresh, read_outcome}
 use Rattle.edetector.specs.View.{terms}
 use Rattle.plantlog.specs.declared.fault.RecordFault.TheVariants.{NoneLeft}
 use Rattle.plantlog.specs.declared.record.Setup.{Setup}
@@ -14,26 +14,29 @@ use Rattle.plantlog.specs.declared.record.RuleChoice.{RuleChoice}
 use Rattle.plantlog.specs.declared.record.RuleChoice.TheVariants.{ShiryaevRoberts, Page}
 use Rattle.plantlog.specs.Results.{and_then}
 use Rattle.plantlog.specs.Format.{Fields}
+use Rattle.playback.specs.declared.report.Run.{Run}
 use Rattle.playback.specs.declared.stop.ReplayFault.{ReplayFault}
 use Rattle.playback.specs.declared.stop.ReplayFault.TheVariants.{Record, Value, TooLong}
 use Rattle.playback.specs.declared.stop.Fault.{Fault}
+use Rattle.daybook.specs.declared.book.Book.{Book}
+use Rattle.daybook.specs.declared.entry.alarm.Alarm.{Alarm}
 use Rattle.daybook.specs.declared.entry.unwatched.Unwatched.{Unwatched}
-use Rattle.daybook.specs.Entries.{AlarmView}
+use Rattle.daybook.specs.Books.{entries_of}
 use Rattle.playback.specs.Front.{next_fields, only_table, only_setup, only_alternative}
 use Rattle.playback.specs.Stream.{Stream, Over, Broken, Next, stream_of}
 use Rattle.playback.specs.Watch.{Watch, Places}
 use Rattle.playback.specs.Replaying.{Spot, longest, first_spot, nowhere, behind, fault_in, Finish, watching}
 
--- what is told of a replay: a fault with no monitor, or the monitor's classes, total, threshold and rule,
--- how it stands at last, and the fault if there was one
-pub data Said : Type 0 where
-  Unmade : Fault → Said
-  Made : ℕ → ℕ → ℕ → RuleChoice → Told → Option Fault → Said
-
+-- what is told of a replay: the fault where no monitor was made, or the monitor with how it stands at last; and what the two
+-- books hold
 pub record Replay : Type 0 where
-  pub said : Said
-  pub alarms : List AlarmView
+  pub said : Result Run Fault
+  pub alarms : List Alarm
   pub unwatched : List Unwatched
+
+-- the report with what the books hold
+abbrev pub replay_told : Result Run Fault → Book Alarm → Book Unwatched → Replay
+replay_told report alarms unwatched = record { said = report; alarms = entries_of alarms; unwatched = entries_of unwatched }
 
 abbrev pub rule_base : RuleChoice → ℕ → ℕ
 rule_base ShiryaevRoberts = shiryaev_roberts
@@ -57,7 +60,7 @@ tail_of (Next f n rest) = rest
 
 -- a fault before the monitor is made
 abbrev pub no_monitor : Spot → ReplayFault → Replay
-no_monitor at cause = record { said = Unmade (fault_in at cause); alarms = []; unwatched = [] }
+no_monitor at cause = record { said = Err (fault_in at cause); alarms = []; unwatched = [] }
 
 -- what follows the next record with what it says, or the fault where it begins
 abbrev pub with_record : {X : Type 0} → Result X ReplayFault → Stream → Spot → (X → Stream → Spot → Replay) → Replay
@@ -71,7 +74,14 @@ begun play = record { standing = fresh play; last = None; counts = 0; alarms = [
 -- what is told of a finish
 abbrev pub finished : List ℕ → Setup → Terms → Finish → Replay
 finished ws x t f = record {
-  said = Made (length ws) (total ws) x.threshold x.rule (reading t f.watch.standing).answer f.fault;
+  said = Ok (record {
+    classes = length ws;
+    total = sum ws;
+    threshold = x.threshold;
+    rule = x.rule;
+    last = (read_outcome t f.watch.standing).answer;
+    fault = f.fault;
+  });
   alarms = f.watch.alarms;
   unwatched = f.watch.unwatched;
 }

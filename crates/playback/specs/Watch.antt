@@ -7,21 +7,21 @@ use Rattle.edetector.specs.declared.slip.ShownSlip.{ShownSlip}
 use Rattle.edetector.specs.declared.fault.MonitorFault.{MonitorFault}
 use Rattle.edetector.specs.declared.fault.Refused.{Refused}
 use Rattle.edetector.specs.Slips.{shown_slip}
-use Rattle.edetector.specs.Ledger.{Terms, Standing, Outcome, outcome, staking, settling, rearming}
+use Rattle.edetector.specs.Ledger.{Terms, Standing, Outcome, outcome, stake_outcome, settle_outcome, rearm_outcome}
 use Rattle.plantlog.specs.Results.{of_err}
 use Rattle.playback.specs.declared.stop.ReplayFault.{ReplayFault}
 use Rattle.playback.specs.declared.stop.ReplayFault.TheVariants.{Monitor, Book, DayNotAbove, CountsDiffer}
 use Rattle.daybook.specs.declared.fault.BookFault.TheVariants.{Full}
 use Rattle.daybook.specs.declared.entry.unwatched.Unwatched.{Unwatched}
 use Rattle.daybook.specs.Books.{all_used, above}
-use Rattle.daybook.specs.Entries.{AlarmView}
+use Rattle.daybook.specs.declared.entry.alarm.Alarm.{Alarm}
 
 -- the monitor, the last count's day, how many counts there were, and what the two books hold
 pub record Watch : Type 0 where
   pub standing : Standing
   pub last : Option ℕ
   pub counts : ℕ
-  pub alarms : List AlarmView
+  pub alarms : List Alarm
   pub unwatched : List Unwatched
 
 -- how many places the two books have
@@ -44,40 +44,40 @@ abbrev pub faulted : Watch → ReplayFault → Done
 faulted w f = done (Err f) w
 
 -- a count of the day is dealt with
-abbrev pub counted : Watch → ℕ → Standing → List AlarmView → List Unwatched → Watch
+abbrev pub counted : Watch → ℕ → Standing → List Alarm → List Unwatched → Watch
 counted w day s alarms unwatched = record { standing = s; last = Some day; counts = w.counts + 1; alarms = alarms; unwatched = unwatched }
 
 -- what a watched count leads to: the answer, the monitor and the alarm book
 pub record Round : Type 0 where
   pub answer : Result (Unit {0}) ReplayFault
   pub standing : Standing
-  pub alarms : List AlarmView
+  pub alarms : List Alarm
 
-abbrev pub round : Result (Unit {0}) ReplayFault → Standing → List AlarmView → Round
+abbrev pub round : Result (Unit {0}) ReplayFault → Standing → List Alarm → Round
 round answer s alarms = record { answer = answer; standing = s; alarms = alarms }
 
 -- a settled round is entered if it rang
-abbrev pub alarm_if : Bool → ℕ → Standing → List AlarmView → List AlarmView
+abbrev pub alarm_if : Bool → ℕ → Standing → List Alarm → List Alarm
 alarm_if true day s alarms = alarms ++ (record { day = day; round = s.rounds; ledger = s.ledger } ∷ [])
 alarm_if false day s alarms = alarms
 
-abbrev pub after_settle : Result Bool (Refused ShownSlip) → ℕ → Standing → List AlarmView → Round
+abbrev pub after_settle : Result Bool (Refused ShownSlip) → ℕ → Standing → List Alarm → Round
 after_settle (Ok b) day s alarms = round (Ok tt) s (alarm_if b day s alarms)
 after_settle (Err r) day s alarms = round (Err (Monitor r.fault)) s alarms
 
 -- a shown slip is settled
-abbrev pub settled_slip : Terms → Standing → List AlarmView → ℕ → ShownSlip → Round
-settled_slip t s alarms day slip = let o = settling t s slip in after_settle o.answer day o.after alarms
+abbrev pub settled_slip : Terms → Standing → List Alarm → ℕ → ShownSlip → Round
+settled_slip t s alarms day slip = let o = settle_outcome t s slip in after_settle o.answer day o.after alarms
 
-abbrev pub shown : Terms → List AlarmView → ℕ → ℕ → Result OpenSlip MonitorFault → Standing → Round
+abbrev pub shown : Terms → List Alarm → ℕ → ℕ → Result OpenSlip MonitorFault → Standing → Round
 shown t alarms day count (Ok slip) s = settled_slip t s alarms day (shown_slip slip count)
 shown t alarms day count (Err f) s = round (Err (Monitor f)) s alarms
 
 -- a watched count: stake, show, settle
-abbrev pub watched : Terms → Standing → List AlarmView → ℕ → ℕ → Round
-watched t s alarms day count = let o = staking t s in shown t alarms day count o.answer o.after
+abbrev pub watched : Terms → Standing → List Alarm → ℕ → ℕ → Round
+watched t s alarms day count = let o = stake_outcome t s in shown t alarms day count o.answer o.after
 
-abbrev pub round_done : Watch → ℕ → Result (Unit {0}) ReplayFault → Standing → List AlarmView → Done
+abbrev pub round_done : Watch → ℕ → Result (Unit {0}) ReplayFault → Standing → List Alarm → Done
 round_done w day (Ok u) s alarms = taken (counted w day s alarms w.unwatched)
 round_done w day (Err f) s alarms = faulted w f
 
@@ -99,7 +99,7 @@ count_read t p w number day count = if above w.last day then by_state w.standing
 
 -- the monitor's own answer and what it leaves
 abbrev pub rearm_leads : Terms → Standing → Outcome (Result (Unit {0}) ReplayFault)
-rearm_leads t s = let o = rearming t s in outcome (of_err Monitor o.answer) o.after
+rearm_leads t s = let o = rearm_outcome t s in outcome (of_err Monitor o.answer) o.after
 
 abbrev pub restood : Watch → Standing → Watch
 restood w s = record w { standing = s }

@@ -1,9 +1,7 @@
 // The records before the counts: a table, a setup, and an alternative where the bettor needs one.
-ghost use Rattle.std.specs.Prelude.{◌≡◌, ℕ, Ok, Err, Result, List, OnOk, refl};
-ghost use Rattle.edetector.specs.Weights.{null_weights, alternative_weights};
-ghost use Rattle.plantlog.specs.declared.record.Setup.{Setup as SetupValue};
+ghost use Rattle.std.specs.Prelude.{◌≡◌, ℕ, Err, Result, OnOk, refl};
 ghost use Rattle.plantlog.specs.Format.{Fields, Count as CountFields};
-ghost use Rattle.plantlog.specs.Results.{of_ok, and_then};
+ghost use Rattle.plantlog.specs.Results.{and_then};
 ghost use Rattle.plantlog.specs.Views.{record_said};
 ghost use Rattle.playback.specs.declared.stop.ReplayFault.{ReplayFault};
 ghost use Rattle.playback.specs.declared.stop.ReplayFault.TheVariants.{NotAllowed};
@@ -17,25 +15,17 @@ use plantlog::record::{Kind, Record, Setup};
 
 // One of the records of a header. No `TryFrom` of the log's, since that another record is not allowed here is the replay's fault.
 pub(super) trait HeaderRecord: Copy {
-    ghost Said: { Type 0 };
-
-    ghost said: { Self → Self.Said };
-
     // what a record says that has to be this one
-    ghost only: { Fields → Result Self.Said ReplayFault };
+    ghost only: { Fields → Result Self ReplayFault };
 
     fn from_record(record: Record) -> Result<Self, ReplayFault>
-        ensures { of_ok said result ≡ only (record_said «record») };
+        ensures { result ≡ only (record_said «record») };
 
     // no count is one of them
     ghost no_count: { (day n : ℕ) → only (CountFields day n) ≡ Err NotAllowed };
 }
 
 impl HeaderRecord for NullTable {
-    ghost Said = { List ℕ };
-
-    ghost said = { null_weights };
-
     ghost only = { only_table };
 
     ghost no_count = { λ day n. refl };
@@ -49,10 +39,6 @@ impl HeaderRecord for NullTable {
 }
 
 impl HeaderRecord for Setup {
-    ghost Said = { SetupValue };
-
-    ghost said = { λ setup. setup };
-
     ghost only = { only_setup };
 
     ghost no_count = { λ day n. refl };
@@ -66,10 +52,6 @@ impl HeaderRecord for Setup {
 }
 
 impl HeaderRecord for AlternativeTable {
-    ghost Said = { List ℕ };
-
-    ghost said = { alternative_weights };
-
     ghost only = { only_alternative };
 
     ghost no_count = { λ day n. refl };
@@ -84,7 +66,7 @@ impl HeaderRecord for AlternativeTable {
 
 // The next record, which has to be a T, or why it is none.
 fn next<T: HeaderRecord>(records: &mut Records<'_>) -> Result<T, ReplayFault>
-    ensures value { of_ok T.said result ≡ and_then (next_fields records.old.left) T.only }
+    ensures value { result ≡ and_then (next_fields records.old.left) T.only }
     ensures moved { OnOk result (records.new ≡ behind_record records.old) }
 {
     match records.next_kind()? {
@@ -95,7 +77,7 @@ fn next<T: HeaderRecord>(records: &mut Records<'_>) -> Result<T, ReplayFault>
 
 // The next record, which has to be a T, or the fault where it begins.
 pub(super) fn header<T: HeaderRecord>(records: &mut Records<'_>) -> Result<T, Fault>
-    ensures value { of_ok T.said result ≡ at_spot records.old.at (and_then (next_fields records.old.left) T.only) }
+    ensures value { result ≡ at_spot records.old.at (and_then (next_fields records.old.left) T.only) }
     ensures moved { OnOk result (records.new ≡ behind_record records.old) }
 {
     let at = records.spot();

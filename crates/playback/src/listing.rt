@@ -1,10 +1,8 @@
 // The listing of a replay, by its exact bytes.
-ghost use Rattle.std.specs.Prelude.{◌≡◌, ◌++◌, map, IfOk, string_bytes, OnOk};
-ghost use Rattle.daybook.specs.Entries.{alarm_view};
+ghost use Rattle.std.specs.Prelude.{◌≡◌, ◌++◌, IfOk, string_bytes, OnOk};
 ghost use Rattle.playback.specs.Listing.{monitor_part, last_part, listing_of};
 ghost use Rattle.playback.specs.Stops.{stop_number, stop_layer};
 ghost use Rattle.playback.specs.Replayed.{replay_of};
-ghost use Rattle.playback.specs.Told.{said_by};
 
 use super::replay::replay;
 use super::report::Run;
@@ -32,7 +30,7 @@ impl From<Run> for MonitorLine {
 }
 
 fn put_monitor(out: &mut String, report: &Result<Run, Fault>) -> Result<(), AllocError>
-    ensures { OnOk result (string_bytes out.new ≡ string_bytes out.old ++ monitor_part (said_by report.now)) }
+    ensures { OnOk result (string_bytes out.new ≡ string_bytes out.old ++ monitor_part report.now) }
 {
     match *report {
         Err(_) => Ok(()),
@@ -54,7 +52,7 @@ impl From<Fault> for FaultLine {
 }
 
 fn put_end(out: &mut String, run: Run, unwatched: usize) -> Result<(), AllocError>
-    ensures { OnOk result (string_bytes out.new ≡ string_bytes out.old ++ last_part (said_by (Ok run)) unwatched) }
+    ensures { OnOk result (string_bytes out.new ≡ string_bytes out.old ++ last_part (Ok run) unwatched) }
 {
     match run.fault {
         Some(fault) => put_line(out, FaultLine::from(fault)),
@@ -74,7 +72,7 @@ fn put_last(
     report: &Result<Run, Fault>,
     unwatched: usize,
 ) -> Result<(), AllocError>
-    ensures { OnOk result (string_bytes out.new ≡ string_bytes out.old ++ last_part (said_by report.now) unwatched) }
+    ensures { OnOk result (string_bytes out.new ≡ string_bytes out.old ++ last_part report.now unwatched) }
 {
     match *report {
         Err(fault) => put_line(out, FaultLine::from(fault)),
@@ -88,7 +86,7 @@ pub fn listing(
     alarms: &[Alarm],
     unwatched: &[Unwatched],
 ) -> Result<String, AllocError>
-    ensures { IfOk result (λ s. string_bytes s ≡ listing_of (record { said = said_by report.now; alarms = map alarm_view alarms.now; unwatched = unwatched.now })) }
+    ensures { IfOk result (λ s. string_bytes s ≡ listing_of (record { said = report.now; alarms = alarms.now; unwatched = unwatched.now })) }
 {
     let mut out = String::new(alloc);
     put_monitor(&mut out, report)?;

@@ -1,12 +1,10 @@
 // The header, and the monitor that it asks for.
 ghost use Rattle.std.specs.Prelude.{◌≡◌, IfOk, OnOk};
-ghost use Rattle.edetector.specs.Weights.{null_weights, alternative_weights};
 ghost use Rattle.plantlog.specs.Results.{of_ok};
 ghost use Rattle.playback.specs.Held.{places_lent, NothingYet, KeepsBooks};
-ghost use Rattle.playback.specs.Replayed.{monitored, replayed, alternative_for};
+ghost use Rattle.playback.specs.Replayed.{monitored, replayed, replay_told, alternative_for};
 ghost use Rattle.playback.specs.Rest.{at_spot, behind_record};
 ghost use Rattle.playback.specs.Stream.{stream_of};
-ghost use Rattle.playback.specs.Told.{replay_told};
 
 use super::books::Books;
 use super::header::header;
@@ -33,9 +31,9 @@ fn run<B: Bettor + Drop>(
     mut records: Records<'_>,
     books: &mut Books<'_, '_, '_>,
 ) -> Result<Run, Fault>
-    requires table { B.nulls bettor ≡ null_weights null }
+    requires table { B.nulls bettor ≡ null }
     requires begins { NothingYet records books.old }
-    ensures value { replay_told result books.new.alarms.now books.new.unwatched.now ≡ monitored (places_lent books.old) (null_weights null) setup (B.strategy bettor) (stream_of records.entry.left) records.entry.at }
+    ensures value { replay_told result books.new.alarms.now books.new.unwatched.now ≡ monitored (places_lent books.old) null setup (B.strategy bettor) (stream_of records.entry.left) records.entry.at }
     ensures kept { KeepsBooks books.old books.new }
 {
     let at = records.spot();
@@ -55,7 +53,7 @@ fn run<B: Bettor + Drop>(
 
 // The fixed bettor of the alternative in front.
 fn fixed(null: NullTable, records: &mut Records<'_>) -> Result<Fixed, Fault>
-    ensures value { of_ok (λ b. alternative_weights b.alternative) result ≡ at_spot records.old.at (alternative_for (null_weights null) records.old.left) }
+    ensures value { of_ok (λ b. b.alternative) result ≡ at_spot records.old.at (alternative_for null records.old.left) }
     ensures table { IfOk result (λ b. b.null ≡ null) }
     ensures moved { OnOk result (records.new ≡ behind_record records.old) }
 {

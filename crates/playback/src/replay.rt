@@ -7,8 +7,7 @@ ghost use Rattle.playback.specs.Figures.{Figures};
 ghost use Rattle.playback.specs.Held.{places_in};
 ghost use Rattle.playback.specs.Planned.{Planned};
 ghost use Rattle.playback.specs.Promised.{Promised};
-ghost use Rattle.playback.specs.Replayed.{replay_of};
-ghost use Rattle.playback.specs.Told.{said_by, replay_told};
+ghost use Rattle.playback.specs.Replayed.{replay_of, replay_told};
 
 use super::books::Books;
 use super::open::open;
@@ -30,7 +29,7 @@ pub fn replay(
 ) -> Result<Run, Fault>
     ensures value { replay_told result alarms.new unwatched.new ≡ replay_of (places_in alarms.old unwatched.old) log.now }
     ensures kept { Keeps alarms.old alarms.new × Keeps unwatched.old unwatched.new }
-    ensures accepts { NoFault (said_by result) → Accepted log.now }
+    ensures accepts { NoFault result → Accepted log.now }
     ensures takes { Takes }
     ensures whole_course { HasWholeCourse }
     ensures one_finish { OneFinish }

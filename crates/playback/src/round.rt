@@ -1,13 +1,13 @@
 // One watched count: stake, show, settle, and enter the alarm if it rang.
 ghost use Rattle.std.specs.Prelude.{◌≡◌, true, false, Ok};
-ghost use Rattle.edetector.specs.Ledger.{fitting};
+ghost use Rattle.edetector.specs.Ledger.{is_fitting};
 ghost use Rattle.edetector.specs.View.{view, terms_of};
 ghost use Rattle.plantlog.specs.declared.record.Kind.TheVariants.{Count as ACount};
 ghost use Rattle.plantlog.specs.Results.{of_ok};
 ghost use Rattle.plantlog.specs.Format.{kind_of};
 ghost use Rattle.daybook.specs.Books.{entries_of, places_of, all_used, above_in};
 ghost use Rattle.playback.specs.Front.{next_fields, count_next};
-ghost use Rattle.playback.specs.Held.{alarms_in, Grows};
+ghost use Rattle.playback.specs.Held.{Grows};
 ghost use Rattle.playback.specs.Rest.{behind_count, moved_if};
 ghost use Rattle.playback.specs.Watch.{round as leads, settled_slip, watched};
 
@@ -27,12 +27,12 @@ fn settle_shown<B: Bettor, R: RestartRule>(
     day: u32,
     alarms: &mut Book<'_, Alarm>,
 ) -> Result<(), ReplayFault>
-    requires fits { fitting (terms_of B.nulls R.base monitor.old) (view B.nulls B.strategy monitor.old) slip.tag slip.number ≡ true }
+    requires fits { is_fitting (terms_of B.meaning R.base monitor.old) (view B.meaning monitor.old) slip.tag slip.number ≡ true }
     requires room { all_used (places_of alarms.old) (entries_of alarms.old) ≡ false }
     requires rises { above_in (λ a. a.day) (entries_of alarms.old) day ≡ true }
-    ensures does { leads result (view B.nulls B.strategy monitor.new) (alarms_in alarms.new) ≡ settled_slip (terms_of B.nulls R.base monitor.old) (view B.nulls B.strategy monitor.old) (alarms_in alarms.old) day slip }
+    ensures does { leads result (view B.meaning monitor.new) (entries_of alarms.new) ≡ settled_slip (terms_of B.meaning R.base monitor.old) (view B.meaning monitor.old) (entries_of alarms.old) day slip }
     ensures ok { result ≡ Ok tt }
-    ensures terms { terms_of B.nulls R.base monitor.new ≡ terms_of B.nulls R.base monitor.old }
+    ensures terms { terms_of B.meaning R.base monitor.new ≡ terms_of B.meaning R.base monitor.old }
     ensures kept { Grows alarms.old alarms.new }
 {
     // A slip that is handed back may not be dropped, so it needs an arm with a name.
@@ -62,9 +62,9 @@ pub(super) fn watch_count<B: Bettor, R: RestartRule>(
     requires count { of_ok kind_of (next_fields records.old.left) ≡ Ok (ACount day) }
     requires room { all_used (places_of alarms.old) (entries_of alarms.old) ≡ false }
     requires rises { above_in (λ a. a.day) (entries_of alarms.old) day ≡ true }
-    ensures does { leads result (view B.nulls B.strategy monitor.new) (alarms_in alarms.new) ≡ watched (terms_of B.nulls R.base monitor.old) (view B.nulls B.strategy monitor.old) (alarms_in alarms.old) day (count_next (next_fields records.old.left)) }
+    ensures does { leads result (view B.meaning monitor.new) (entries_of alarms.new) ≡ watched (terms_of B.meaning R.base monitor.old) (view B.meaning monitor.old) (entries_of alarms.old) day (count_next (next_fields records.old.left)) }
     ensures moved { records.new ≡ moved_if result (behind_count day records.old) records.old }
-    ensures terms { terms_of B.nulls R.base monitor.new ≡ terms_of B.nulls R.base monitor.old }
+    ensures terms { terms_of B.meaning R.base monitor.new ≡ terms_of B.meaning R.base monitor.old }
     ensures kept { Grows alarms.old alarms.new }
 {
     let slip = monitor.stake()?;

@@ -21,9 +21,9 @@ pub(super) fn rearm<B: Bettor, R: RestartRule>(
     monitor: &mut Monitor<B, R>,
 ) -> Result<(), ReplayFault>
     requires { of_ok kind_of (next_fields records.old.left) ≡ Ok ARearm }
-    ensures does { outcome result (view B.nulls B.strategy monitor.new) ≡ rearm_leads (terms_of B.nulls R.base monitor.old) (view B.nulls B.strategy monitor.old) }
+    ensures does { outcome result (view B.meaning monitor.new) ≡ rearm_leads (terms_of B.meaning R.base monitor.old) (view B.meaning monitor.old) }
     ensures moved { records.new ≡ behind_record records.old }
-    ensures terms { terms_of B.nulls R.base monitor.new ≡ terms_of B.nulls R.base monitor.old }
+    ensures terms { terms_of B.meaning R.base monitor.new ≡ terms_of B.meaning R.base monitor.old }
 {
     let _ = records.read()?;
     monitor.rearm()?;

@@ -1,6 +1,5 @@
 // The line of an alarm.
 ghost use Rattle.std.specs.Prelude.{Some};
-ghost use Rattle.daybook.specs.Entries.{alarm_view};
 ghost use Rattle.daybook.specs.Lines.{alarm_line};
 
 use super::wealth::InBets;
@@ -8,7 +7,7 @@ use crate::entry::alarm::Alarm;
 use std::fmt;
 
 impl fmt::Display for Alarm {
-    ghost output = { λ a. Some (alarm_line (alarm_view a)) };
+    ghost output = { λ a. Some (alarm_line a) };
 
     fn fmt<W: fmt::Write>(&self, f: &mut fmt::Formatter<W>) -> fmt::Result {
         let Alarm { day, round, ledger } = *self;

@@ -10,13 +10,13 @@ pub struct InBets(pub Wealth);
 
 // The hundredths of a bet, a part of one dropped.
 fn hundredths(wealth: Wealth) -> u64
-    ensures { result ≡ hundredths_in wealth.parts }
+    ensures { result ≡ hundredths_in wealth }
 {
     wealth.parts() * 100 / BET
 }
 
 impl fmt::Display for InBets {
-    ghost output = { λ w. Some (wealth_text w.0.parts) };
+    ghost output = { λ w. Some (wealth_text w.0) };
 
     #[tactic(auto, using(crate::proofs::Digits::last_two_digits))]
     fn fmt<W: fmt::Write>(&self, f: &mut fmt::Formatter<W>) -> fmt::Result {

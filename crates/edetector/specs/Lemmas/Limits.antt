@@ -20,7 +20,7 @@ each_within low (w ∷ ws) e zero h =
     (leb-true low w both.0, leb-true w most_weight both.1)
 each_within low (w ∷ ws) e (suc k) h = each_within low ws (and_parts (from_to low most_weight w) _ e).1 k (le_of_suc-le-suc h)
 
-by_tests : (a b d : Bool) → cond (not a) (Some Classes) (cond (not b) (Some Weight) (cond (not d) (Some Total) None)) ≡ None → (a ≡ true) × (b ≡ true) × (d ≡ true)
+pub by_tests : (a b d : Bool) → cond (not a) (Some Classes) (cond (not b) (Some Weight) (cond (not d) (Some Total) None)) ≡ None → (a ≡ true) × (b ≡ true) × (d ≡ true)
 by_tests true true true e = (refl, refl, refl)
 by_tests true true false e = (cc, cc, cc)
 by_tests true false d e = (cc, cc, cc)

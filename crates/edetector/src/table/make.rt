@@ -22,13 +22,13 @@ fn total_of(weights: &[Weight]) -> u32
 }
 
 // The weights with zeros behind them.
-fn padded(weights: &[Weight]) -> [Weight; 16]
+fn padded(weights: &[Weight]) -> [Weight; MOST_CLASSES]
     requires { length weights.now ≤ most_classes }
     ensures front { take (length weights.now) result ≡ weights.now }
     ensures behind { drop (length weights.now) result ≡ replicate (most_classes - length weights.now) (record { 0 = 0 }) }
     ensures room { length result ≡ most_classes }
 {
-    let mut held = [Weight(0); 16];
+    let mut held = [Weight(0); MOST_CLASSES];
     held[..weights.len()].copy_from_slice(weights);
     held
 }

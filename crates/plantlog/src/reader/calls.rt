@@ -46,8 +46,14 @@ impl<'a> Reader<'a> {
             return Ok(None);
         }
         let (parsed, span) = judge_next(&self.log[self.place..], buf)?;
-        self.judged = parsed.judged(span);
-        Ok(Some(Kind::from(parsed)))
+        let (kind, judged) = match parsed {
+            Parsed::Count { day, count } => {
+                (Kind::Count(day), Some(JudgedCount { day, count, span }))
+            }
+            Parsed::Other(record) => (Kind::from(record), None),
+        };
+        self.judged = judged;
+        Ok(Some(kind))
     }
 
     // Moves past the record in front, of so many bytes.

@@ -1,5 +1,6 @@
 // The numbers of a table to be written.
 ghost use Rattle.std.specs.Prelude.{◌≡◌, ◌+◌, ◌≤◌, ◌∷◌, length};
+ghost use Rattle.edetector.specs.Tables.{most_classes};
 ghost use Rattle.edetector.specs.Units.{weights_in};
 
 use edetector::units::Weight;
@@ -7,7 +8,7 @@ use edetector::units::Weight;
 // A table's numbers: how many weights there are, and then each.
 // A `zip` of the weights with the places behind the first was tried, and its proof did not close.
 pub(super) fn table_numbers(weights: &[Weight], numbers: &mut [u32])
-    requires few { length weights.now ≤ 16 }
+    requires few { length weights.now ≤ most_classes }
     requires room { length numbers.old ≡ length weights.now + 1 }
     ensures { numbers.new ≡ length (weights_in weights.now) ∷ weights_in weights.now }
 {

@@ -8,9 +8,10 @@ ghost use Rattle.plantlog.specs.Written.{room_judged, after_write};
 use super::super::fault::RecordFault;
 use super::super::number::{group_count, put_number};
 use super::super::record::Kind;
+use edetector::table::MOST_CLASSES;
 
-// The most numbers of a record: how many weights a table has, and 16 of them.
-pub(super) const MOST_NUMBERS: usize = 17;
+// The most numbers of a record: how many weights a table has, and each of them.
+pub(super) const MOST_NUMBERS: usize = MOST_CLASSES + 1;
 
 // How many bytes the numbers take.
 fn numbers_size(numbers: &[u32]) -> usize

@@ -1,4 +1,3 @@
-use Rattle.std.proofs.Common.{rules}
 use Rattle.std.proofs.lemmas.List.{length-take-le}
 use Rattle.std.proofs.lemmas.Result.{err_from_is_err_and}
 use Rattle.plantlog.proofs.TableRead.{refused_count, refused_weight, refused_whole, refused_more, accepted}
@@ -25,10 +24,9 @@ pub returns-in_err-end : goal.returns-in_err-end
 returns-in_err-end g c =
     let p = err_from_is_err_and c.from_residual-in_err-end.result c.from_residual-in_err-end.ensures.1 in
     let k = c.in_ok-classes in
-    rw (p.1, p.2) (refused_more _ c.args.bytes.now k.field-0 _ k.ensures.value _ _ _ (length-take-le k.field-0 _ k.ensures.limits.1) c.in_ok-weights.ensures (search rules) _ c.in_err-end.ensures)
+    rw (p.1, p.2) (refused_more _ c.args.bytes.now k.field-0 _ k.ensures.value _ _ _ (length-take-le k.field-0 _ k.ensures.limits.1) c.in_ok-weights.ensures _ c.in_ok-table.ensures _ c.in_err-end.ensures)
 
 pub returns : goal.returns
 returns g c =
     let k = c.in_ok-classes in
-    let made = c.in_ok-table.ensures in
-    accepted _ c.args.bytes.now k.field-0 _ k.ensures.value _ _ _ (length-take-le k.field-0 _ k.ensures.limits.1) c.in_ok-weights.ensures made.0 _ made.1 c.in_ok-end.ensures
+    accepted _ c.args.bytes.now k.field-0 _ k.ensures.value _ _ _ (length-take-le k.field-0 _ k.ensures.limits.1) c.in_ok-weights.ensures _ c.in_ok-table.ensures c.in_ok-end.ensures

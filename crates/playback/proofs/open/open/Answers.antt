@@ -1,8 +1,6 @@
 use Rattle.std.proofs.Common.{Err, sym, ap, ◌∙◌, ap₂}
 use Rattle.std.proofs.lemmas.Result.{err_from_is_err_and}
-use Rattle.edetector.specs.declared.table.Table.{Table}
 use Rattle.edetector.specs.Bettors.{fixed, adaptive}
-use Rattle.edetector.specs.Weights.{null_weights, alternative_weights}
 use Rattle.plantlog.specs.declared.record.BettorChoice.{BettorChoice}
 use Rattle.playback.specs.Replayed.{play_of, has_alternative}
 use Rattle.playback.proofs.Opens.{unmade_told, header_taken, first_refused, second_refused, third_refused, first_taken, third_taken, goes_adaptive, mixed_plays}
@@ -37,19 +35,19 @@ returns-in_err-fixed-in-Mixture-clause-value c =
 pub returns-in-Adaptive-clause-value : goal.returns-in-Adaptive-clause-value
 returns-in-Adaptive-clause-value c =
     let n = c.in_ok-null.null in
-    let plays = ap₂ (λ (x : Table 1) (y : _). adaptive (null_weights x) y) c.new.ensures.table c.new.ensures.fresh in
-    c.run.ensures.value ∙ goes_adaptive _ c.header-2.new.records (null_weights n) c.in_ok-setup.setup _ c.in-Adaptive.is plays
+    let plays = ap₂ adaptive c.new.ensures.table c.new.ensures.fresh in
+    c.run.ensures.value ∙ goes_adaptive _ c.header-2.new.records n c.in_ok-setup.setup _ c.in-Adaptive.is plays
     ∙ header_taken _ c.args.records c.header.new.records c.header-2.new.records c.in_ok-null.ensures.moved c.in_ok-setup.ensures.moved _ _ c.in_ok-null.ensures.value c.in_ok-setup.ensures.value
 
 pub returns-in_ok-fixed-in-Fixed-clause-value : goal.returns-in_ok-fixed-in-Fixed-clause-value
 returns-in_ok-fixed-in-Fixed-clause-value c =
     let n = c.in_ok-null.null in
     let f = c.in_ok-fixed-in-Fixed.field-0 in
-    let alts = alternative_weights f.alternative in
+    let alts = f.alternative in
     let other = ap has_alternative c.in-Fixed.is in
-    let plays = ap (λ (x : Table 1). fixed (null_weights x) alts) c.in_ok-fixed-in-Fixed.ensures.table ∙ sym (ap (λ (b : BettorChoice). play_of b (null_weights n) alts) c.in-Fixed.is) in
+    let plays = ap (λ x. fixed x alts) c.in_ok-fixed-in-Fixed.ensures.table ∙ sym (ap (λ (b : BettorChoice). play_of b n alts) c.in-Fixed.is) in
     c.run-in-Fixed.ensures.value
-    ∙ third_taken _ c.header-2.new.records c.fixed.new.records c.in_ok-fixed-in-Fixed.ensures.moved (null_weights n) c.in_ok-setup.setup alts _ other c.in_ok-fixed-in-Fixed.ensures.value plays
+    ∙ third_taken _ c.header-2.new.records c.fixed.new.records c.in_ok-fixed-in-Fixed.ensures.moved n c.in_ok-setup.setup alts _ other c.in_ok-fixed-in-Fixed.ensures.value plays
     ∙ header_taken _ c.args.records c.header.new.records c.header-2.new.records c.in_ok-null.ensures.moved c.in_ok-setup.ensures.moved _ _ c.in_ok-null.ensures.value c.in_ok-setup.ensures.value
 
 pub returns-in_ok-fixed-in-Mixture-clause-value : goal.returns-in_ok-fixed-in-Mixture-clause-value
@@ -57,9 +55,9 @@ returns-in_ok-fixed-in-Mixture-clause-value c =
     let n = c.in_ok-null.null in
     let f = c.in_ok-fixed-in-Mixture.field-0 in
     let a = c.new-in-Mixture.result in
-    let alts = alternative_weights f.alternative in
+    let alts = f.alternative in
     let other = ap has_alternative c.in-Mixture.is in
-    let plays = mixed_plays c.new-mixture.result f a n c.new-mixture.ensures c.in_ok-fixed-in-Mixture.ensures.table c.new-in-Mixture.ensures.table c.new-in-Mixture.ensures.fresh ∙ sym (ap (λ (b : BettorChoice). play_of b (null_weights n) alts) c.in-Mixture.is) in
+    let plays = mixed_plays c.new-mixture.result f a n c.new-mixture.ensures c.in_ok-fixed-in-Mixture.ensures.table c.new-in-Mixture.ensures.table c.new-in-Mixture.ensures.fresh ∙ sym (ap (λ (b : BettorChoice). play_of b n alts) c.in-Mixture.is) in
     c.run-in-Mixture.ensures.value
-    ∙ third_taken _ c.header-2.new.records c.fixed-in-Mixture.new.records c.in_ok-fixed-in-Mixture.ensures.moved (null_weights n) c.in_ok-setup.setup alts _ other c.in_ok-fixed-in-Mixture.ensures.value plays
+    ∙ third_taken _ c.header-2.new.records c.fixed-in-Mixture.new.records c.in_ok-fixed-in-Mixture.ensures.moved n c.in_ok-setup.setup alts _ other c.in_ok-fixed-in-Mixture.ensures.value plays
     ∙ header_taken _ c.args.records c.header.new.records c.header-2.new.records c.in_ok-null.ensures.moved c.in_ok-setup.ensures.moved _ _ c.in_ok-null.ensures.value c.in_ok-setup.ensures.value
