@@ -1,8 +1,7 @@
 -- The bound: A × weighted alarms ≤ weighted settled rounds.
-use Rattle.std.proofs.Common.{◌≡◌, ℕ, zero, suc, ◌+◌, ◌*◌, ◌≤◌, Bool, true, false, cond, leb, List, [], ◌∷◌, ◌++◌, length, replicate, Ok, Err, sym, refl, ap, ◌∙◌, ap₂, mul_assoc, mul_comm, mul-le-mul_left, one-mul, mul-zero, mul-add, arith}
+use Rattle.std.proofs.Common.{◌≡◌, ℕ, zero, suc, ◌+◌, ◌*◌, ◌≤◌, Bool, true, false, cond, leb, List, [], ◌∷◌, ◌++◌, length, replicate, sym, refl, ap, ◌∙◌, ap₂, mul_assoc, mul_comm, mul-le-mul_left, one-mul, mul-zero, mul-add, arith}
 use native.Mathlib.Nat.{le_of_mul-le-mul_left}
 use Rattle.std.specs.List.{sum}
-use Rattle.std.proofs.lemmas.Bool.{false≢true}
 use Rattle.std.proofs.lemmas.Bool.Decides.{nat_tests}
 use Rattle.edetector.specs.declared.state.State.{State}
 use Rattle.edetector.specs.declared.state.State.TheVariants.{Armed, Staked, Rung}
@@ -11,13 +10,13 @@ use Rattle.edetector.specs.Rules.{bet, IsRestartRule}
 use Rattle.edetector.specs.Bettors.{Meaning, IsBettor}
 use Rattle.edetector.specs.States.{is_staked}
 use Rattle.edetector.specs.Ledger.{Terms, Standing, terms, first_standing, after_settle, rings, ledger_after}
-use Rattle.edetector.specs.Calls.{Answer, OfStake, OfSettle, OfWithdraw, OfRearm, OfRead, is_round, is_alarm, alarms_in, rounds_in}
+use Rattle.edetector.specs.Calls.{is_round, is_alarm, alarms_in, rounds_in}
 use Rattle.edetector.specs.Plans.{Plan, run, Bound}
 use Rattle.edetector.specs.Lemmas.Sums.{weigh, fair_by_class, weigh_mono, weigh_add, weigh_scale}
 use Rattle.edetector.proofs.Weighing.{weigh_same, weigh_within, weigh_const, fair_step}
 use Rattle.edetector.proofs.Sequences.{over_all, over_same, weighted_is, replicate_long, mass, mass_more, over_none, over_plus}
 use Rattle.edetector.proofs.Fairness.{FairRow, potential, potential_at, row_fair, Sound, all_kept}
-use Rattle.edetector.proofs.Runs.{CountsRounds, answers_from, before_settle, run_none, run_more}
+use Rattle.edetector.proofs.Runs.{only_alarms, answers_from, before_settle, run_none, run_more}
 
 -- an alarm costs a, and what is left of the ledger is the potential
 paid_by : (a m : ℕ) (b : Bool) → (b ≡ true → a ≤ m) → a * cond b 1 0 + potential_at a (cond b Rung Armed) m ≡ m
@@ -50,10 +49,6 @@ all_classes u ro n w m b grow g h =
     let e5 : u * (w * (1 * n) + ro) ≡ u * (w * (1 * n)) + u * ro = mul-add u (w * (1 * n)) ro in
     let e6 : u * (w * (1 * n)) ≡ u * (w * n) = ap (λ x. u * x) e4 in
     omega (arith, g2, g3, g4, g5, e2, e3, e5, e6)
-
-only_alarms : CountsRounds is_alarm
-only_alarms (OfSettle (Ok rang)) apart = absurd (false≢true (sym apart))
-only_alarms _ apart = refl
 
 not_staked : (ws row : List ℕ) (b : Bool) → row_fair ws (cond b Rung Armed) row
 not_staked ws row true = tt

@@ -1,7 +1,7 @@
 -- What a plan's run answers, settlement by settlement; and any calls of a monitor by their contracts.
 use Rattle.std.proofs.Common.{◌≡◌, ℕ, ◌+◌, Bool, true, false, cond, ◌&&◌, eqb, List, [], ◌∷◌, ◌++◌, length, Ok, Err, Result, sym, refl, ap, ap₂, ◌∙◌, zero-add, arith}
 use Rattle.std.specs.List.{count_by}
-use Rattle.std.proofs.lemmas.Bool.{cond_both}
+use Rattle.std.proofs.lemmas.Bool.{false≢true, cond_both}
 use Rattle.std.proofs.lemmas.Bool.Decides.{nat_tests}
 use Rattle.std.proofs.lemmas.List.Sums.{sum_by-cons, sum_by-append}
 use Rattle.edetector.specs.declared.state.State.TheVariants.{Staked}
@@ -11,7 +11,7 @@ use Rattle.edetector.specs.Tables.{class_of}
 use Rattle.edetector.specs.States.{is_staked}
 use Rattle.edetector.specs.Slips.{shown_slip}
 use Rattle.edetector.specs.Ledger.{Terms, Standing, Outcome, outcome, next_slip, misfit, settle_outcome, after_settle, rings}
-use Rattle.edetector.specs.Calls.{Call, Stake, Settle, Withdraw, Rearm, Read, Answer, OfSettle, is_round, call_outcome, calls_outcome}
+use Rattle.edetector.specs.Calls.{Call, Stake, Settle, Withdraw, Rearm, Read, Answer, OfStake, OfSettle, OfWithdraw, OfRearm, OfRead, is_round, is_alarm, call_outcome, calls_outcome}
 use Rattle.edetector.specs.Plans.{Plan, settles, plan_calls, next_shown, run_calls}
 use Rattle.edetector.proofs.Fairness.{misfits}
 
@@ -26,6 +26,10 @@ calls-append t s (c ∷ cs) ds =
 -- what counts settled rounds, or some of them
 abbrev pub CountsRounds : (Answer → Bool) → Type 0
 CountsRounds q = (a : Answer) → is_round a ≡ false → q a ≡ false
+
+pub only_alarms : CountsRounds is_alarm
+only_alarms (OfSettle (Ok rang)) apart = absurd (false≢true (sym apart))
+only_alarms _ apart = refl
 
 -- a call that settles nothing answers of no round
 unsettled : (t : Terms) (s : Standing) (c : Call) → settles s c ≡ false → is_round (call_outcome t s c).answer ≡ false
@@ -51,7 +55,7 @@ abbrev pub accepted : Terms → Standing → ℕ → Outcome (Result Bool (Refus
 accepted t m k = let c = class_of (length t.nulls) k in outcome (Ok (rings t m c)) (after_settle t m c)
 
 -- the slip that is out is accepted
-next_is : (t : Terms) (m : Standing) (k : ℕ) → is_staked m.state ≡ true → settle_outcome t m (next_shown m k) ≡ accepted t m k
+pub next_is : (t : Terms) (m : Standing) (k : ℕ) → is_staked m.state ≡ true → settle_outcome t m (next_shown m k) ≡ accepted t m k
 next_is t m k e =
     let tags : eqb m.tag m.tag ≡ true = grind (arith, nat_tests) in
     let numbers : eqb (m.rounds + 1) (m.rounds + 1) ≡ true = grind (arith, nat_tests) in

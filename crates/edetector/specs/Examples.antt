@@ -3,9 +3,9 @@ use Rattle.std.specs.Prelude.{◌≡◌, ℕ, Bool, true, false, List, [], ◌�
 use Rattle.edetector.specs.Tables.{IsFair}
 use Rattle.edetector.specs.Rules.{shiryaev_roberts, page}
 use Rattle.edetector.specs.Bettors.{Meaning, fixed_meaning, adaptive_meaning, mixture}
-use Rattle.edetector.specs.Ledger.{Terms, Standing, terms, first_standing, stake_outcome, settle_outcome}
+use Rattle.edetector.specs.Ledger.{Terms, Standing, terms, first_standing, stake_outcome}
 use Rattle.edetector.specs.Calls.{Stake, Rearm, is_round, is_alarm}
-use Rattle.edetector.specs.Plans.{Plan, next_shown, run, weighted_alarms, weighted_rounds}
+use Rattle.edetector.specs.Plans.{Plan, next_outcome, run, weighted_alarms, weighted_rounds}
 
 abbrev pub nulls_3_1 : List ℕ
 nulls_3_1 = 3 ∷ 1 ∷ []
@@ -21,7 +21,7 @@ abbrev pub ledgers : Terms → Standing → List ℕ → List ℕ
 ledgers t s [] = []
 ledgers t s (k ∷ ks) =
     let m = (stake_outcome t s).after in
-    let after = (settle_outcome t m (next_shown m k)).after in after.ledger ∷ ledgers t after ks
+    let after = (next_outcome t m k).after in after.ledger ∷ ledgers t after ks
 
 -- stakes, after a rearm where the alarm has rung
 abbrev pub rearm_and_stake : Plan

@@ -27,6 +27,9 @@ plan_calls t s (c ∷ cs) = if settles s c then plan_calls t s cs else c ∷ pla
 abbrev pub next_shown : Standing → ℕ → ShownSlip
 next_shown s k = shown_slip (next_slip s) k
 
+abbrev pub next_outcome : Terms → Standing → ℕ → Outcome (Result Bool (Refused ShownSlip))
+next_outcome t s k = settle_outcome t s (next_shown s k)
+
 -- the calls of a plan's run on a sequence of classes, behind those settled so far. If its calls leave a slip out, the slip
 -- is settled with the next class, and if not, or if the sequence is used up, the run ends
 abbrev pub run_calls : Terms → Plan → Standing → List ℕ → List ℕ → List Call
@@ -34,7 +37,7 @@ run_calls t plan s past [] = plan_calls t s (plan past)
 run_calls t plan s past (k ∷ classes) =
     let first = plan_calls t s (plan past) in
     let m = (calls_outcome t s first).after in
-    if is_staked m.state then first ++ (Settle (next_shown m k) ∷ run_calls t plan (settle_outcome t m (next_shown m k)).after (past ++ (k ∷ [])) classes)
+    if is_staked m.state then first ++ (Settle (next_shown m k) ∷ run_calls t plan (next_outcome t m k).after (past ++ (k ∷ [])) classes)
     else first
 
 -- a run is what its calls answer

@@ -5,7 +5,7 @@ use Rattle.std.proofs.lemmas.Bool.{eqb-true}
 use Rattle.std.proofs.lemmas.Bool.Decides.{nat_tests}
 use Rattle.edetector.specs.declared.value.ValueFault.TheVariants.{Alternative as UnlikeClasses, Threshold}
 use Rattle.edetector.specs.Tables.{from_to}
-use Rattle.edetector.specs.Bettors.{Strategy}
+use Rattle.edetector.specs.Bettors.{Meaning}
 use Rattle.edetector.specs.Ledger.{Terms}
 use Rattle.plantlog.specs.Bytes.{Bytes}
 use Rattle.plantlog.specs.Calls.{span}
@@ -25,7 +25,7 @@ use Rattle.playback.specs.Accepted.{NoFault, WatchedRecords, AfterSetup, LogReco
 use Rattle.playback.specs.Course.{Event, Settled, Passed, Rearmed, days_of, RisingDays, free_in, EventsOf, behind_all, spot_behind, Reached}
 use Rattle.plantlog.specs.declared.record.Setup.{Setup as SetupValue}
 use Rattle.playback.specs.Front.{rule_named, bettor_named}
-use Rattle.playback.specs.Replayed.{Replay, begun, finished, no_monitor, with_record, monitored, play_of, has_alternative, alternative_of, after_table, replayed, replay_told, head_of}
+use Rattle.playback.specs.Replayed.{Replay, begun, finished, no_monitor, with_record, monitored, meaning_of, has_alternative, alternative_of, after_table, replayed, replay_told, head_of}
 use Rattle.playback.specs.Replaying.{Spot, longest, first_spot, nowhere, behind, fault_in, watching}
 use Rattle.playback.specs.Stream.{Stream, Over, Broken, Next, opened, stream_by, stream_of}
 use Rattle.playback.specs.Rest.{Rest, whole, taken_whole}
@@ -105,15 +105,15 @@ ends t p s at w none =
     of_events c.events s at w.last w.counts end.0 _ c.of_log c.rising c.counts end.1
 
 module _ (p : Places) (ws : List ℕ) (x : SetupValue) where
-  made_by : (t : Terms) (play : Strategy) (rest : Stream) (at : Spot) (b : Bool) → NoFault (cond b (finished ws x t (watching t p rest at (begun play))) (no_monitor at (Value Threshold))).said → Left None 0 rest
-  made_by t play rest at true none = ends t p rest at (begun play) none
-  made_by t play rest at false none = absurd none
+  made_by : (t : Terms) (m : Meaning) (rest : Stream) (at : Spot) (b : Bool) → NoFault (cond b (finished m.nulls x t (watching t p rest at (begun t m))) (no_monitor at (Value Threshold))).said → Left None 0 rest
+  made_by t m rest at true none = ends t p rest at (begun t m) none
+  made_by t m rest at false none = absurd none
 
-  made : (play : Strategy) (rest : Stream) (at : Spot) → NoFault (monitored p ws x play rest at).said → Left None 0 rest
-  made play rest at none = made_by _ play rest at (from_to 1 4096 x.threshold) none
+  made : (m : Meaning) (rest : Stream) (at : Spot) → NoFault (monitored p x m rest at).said → Left None 0 rest
+  made m rest at none = made_by _ m rest at (from_to 1 4096 x.threshold) none
 
   abbrev plays_by : List ℕ → Stream → Spot → Replay
-  plays_by alts = monitored p ws x (play_of x.bettor ws alts)
+  plays_by alts = monitored p x (meaning_of x.bettor ws alts)
 
   abbrev Behind : Stream → Type 0
   Behind s = (fs : List Fields) × Says s fs × AfterSetup (length ws) x.bettor fs
@@ -132,7 +132,7 @@ module _ (p : Places) (ws : List ℕ) (x : SetupValue) where
       let s = Next (Alternative alts) n rest in
       NoFault (with_record (cond b (Ok alts) (Err (Value UnlikeClasses))) s at plays_by).said → Behind s
   by_classes alts n rest at other true same none =
-      let l = made (play_of x.bettor ws alts) rest (behind at n) none in
+      let l = made (meaning_of x.bettor ws alts) rest (behind at n) none in
       (Alternative alts ∷ l.records, (refl, l.says), (other, eqb-true (length alts) (length ws) same, l.ordered))
   by_classes alts n rest at other false same none = absurd none
 
@@ -141,10 +141,10 @@ module _ (p : Places) (ws : List ℕ) (x : SetupValue) where
   by_alternative _ at other none = absurd none
 
   by_bettor : (s : Stream) (at : Spot) (b : Bool) → has_alternative x.bettor ≡ b →
-      NoFault (cond b (with_record (alternative_of ws (head_of s)) s at plays_by) (monitored p ws x (play_of x.bettor ws []) s at)).said → Behind s
+      NoFault (cond b (with_record (alternative_of ws (head_of s)) s at plays_by) (monitored p x (meaning_of x.bettor ws []) s at)).said → Behind s
   by_bettor s at true has none = by_alternative s at has none
   by_bettor s at false has none =
-      let l = made (play_of x.bettor ws []) s at none in
+      let l = made (meaning_of x.bettor ws []) s at none in
       (l.records, l.says, straight l.records has l.ordered)
 
 by_setup : (p : Places) (ws : List ℕ) (s : Stream) (at : Spot) → NoFault (after_table p ws s at).said → (fs : List Fields) × Says s fs × LogRecords (Table ws ∷ fs)

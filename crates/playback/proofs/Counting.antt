@@ -8,14 +8,14 @@ use Rattle.edetector.specs.declared.fault.MonitorFault.{MonitorFault}
 use Rattle.edetector.specs.declared.fault.MonitorFault.TheVariants.{Spent}
 use Rattle.edetector.specs.Tables.{class_of}
 use Rattle.edetector.specs.Bettors.{Strategy}
-use Rattle.edetector.specs.Ledger.{Terms, Standing, outcome, rings, staked, settled}
+use Rattle.edetector.specs.Ledger.{Terms, Standing, outcome, rings, after_stake, after_settle}
 use Rattle.edetector.specs.View.{standing}
 use Rattle.playback.specs.declared.stop.ReplayFault.{ReplayFault}
 use Rattle.daybook.specs.declared.entry.unwatched.Unwatched.{Unwatched}
 use Rattle.daybook.specs.Books.{all_used, above}
 use Rattle.daybook.specs.declared.entry.alarm.Alarm.{Alarm}
 use Rattle.playback.specs.Rest.{Rest, behind_count, moved_if}
-use Rattle.playback.specs.Watch.{Watch, Places, done, round_done, watched_count, round, after_settle, settled_slip, shown, watched, count_read}
+use Rattle.playback.specs.Watch.{Watch, Places, done, round_done, watched_count, round, round_of, settled_slip, shown, watched, count_read}
 
 -- a refusal differs from a taken round
 refused_not_taken : (f : ReplayFault) (s s' : Standing) (ents ents' : List Alarm) → round (Err f) s ents ≡ round (Ok tt) s' ents' → ⊥
@@ -27,32 +27,32 @@ abbrev Same : Standing → List Alarm → Standing → List Alarm → Type 0
 Same s ents s' ents' = (s' ≡ s) × (ents' ≡ ents)
 
 -- a slip just given fits
-pub settled_fits : (t : Terms) (m r al : ℕ) (row : List ℕ) (play : Strategy) (ents : List Alarm) (day count : ℕ) → (k : ℕ) → k ≡ class_of (length t.nulls) count →
-    settled_slip t (standing Staked m r al row play) ents day (record { tag = t.tag; number = r + 1; count = count })
-    ≡ after_settle (Ok (rings t (standing Staked m r al row play) k)) day (settled t (standing Staked m r al row play) k) ents
-settled_fits t m r al row play ents day count k e =
-    let tags : eqb t.tag t.tag ≡ true = grind (arith, nat_tests) in
+pub settled_fits : (t : Terms) (tag m r al : ℕ) (row : List ℕ) (play : Strategy) (ents : List Alarm) (day count : ℕ) → (k : ℕ) → k ≡ class_of (length t.nulls) count →
+    settled_slip t (standing tag Staked m r al row play) ents day (record { stake = record { tag = tag; number = r + 1 }; count = count })
+    ≡ round_of (Ok (rings t (standing tag Staked m r al row play) k)) day (after_settle t (standing tag Staked m r al row play) k) ents
+settled_fits t tag m r al row play ents day count k e =
+    let tags : eqb tag tag ≡ true = grind (arith, nat_tests) in
     let numbers : eqb (r + 1) (r + 1) ≡ true = grind (arith, nat_tests) in
     rw (tags, numbers, e) refl
 
-by_rounds : (t : Terms) (m r al : ℕ) (row : List ℕ) (play : Strategy) (ents : List Alarm) (day count : ℕ) (f : ReplayFault) (s' : Standing) (ents' : List Alarm) (b : Bool) →
-    let s = standing Armed m r al row play in
-    let o = cond b (outcome {X = Result OpenSlip MonitorFault} (Ok (record { tag = t.tag; number = r + 1 })) (staked s)) (outcome (Err Spent) s) in
+by_rounds : (t : Terms) (tag m r al : ℕ) (row : List ℕ) (play : Strategy) (ents : List Alarm) (day count : ℕ) (f : ReplayFault) (s' : Standing) (ents' : List Alarm) (b : Bool) →
+    let s = standing tag Armed m r al row play in
+    let o = cond b (outcome {X = Result OpenSlip MonitorFault} (Ok (record { tag = tag; number = r + 1 })) (after_stake s)) (outcome (Err Spent) s) in
     round (Err f) s' ents' ≡ shown t ents day count o.answer o.after → Same s ents s' ents'
-by_rounds t m r al row play ents day count f s' ents' true e =
-    absurd (refused_not_taken f s' _ ents' _ (e ∙ settled_fits t m r al (play []) play ents day count _ refl))
-by_rounds t m r al row play ents day count f s' ents' false e = (ap (λ x. x.standing) e, ap (λ x. x.alarms) e)
+by_rounds t tag m r al row play ents day count f s' ents' true e =
+    absurd (refused_not_taken f s' _ ents' _ (e ∙ settled_fits t tag m r al (play []) play ents day count _ refl))
+by_rounds t tag m r al row play ents day count f s' ents' false e = (ap (λ x. x.standing) e, ap (λ x. x.alarms) e)
 
-in_state : (t : Terms) (st : State) (m r al : ℕ) (row : List ℕ) (play : Strategy) (ents : List Alarm) (day count : ℕ) (f : ReplayFault) (s' : Standing) (ents' : List Alarm) →
-    round (Err f) s' ents' ≡ watched t (standing st m r al row play) ents day count → Same (standing st m r al row play) ents s' ents'
-in_state t Armed m r al row play ents day count f s' ents' e = by_rounds t m r al row play ents day count f s' ents' (ltb r 1000000) e
-in_state t Staked m r al row play ents day count f s' ents' e = (ap (λ x. x.standing) e, ap (λ x. x.alarms) e)
-in_state t Rung m r al row play ents day count f s' ents' e = (ap (λ x. x.standing) e, ap (λ x. x.alarms) e)
+in_state : (t : Terms) (st : State) (tag m r al : ℕ) (row : List ℕ) (play : Strategy) (ents : List Alarm) (day count : ℕ) (f : ReplayFault) (s' : Standing) (ents' : List Alarm) →
+    round (Err f) s' ents' ≡ watched t (standing tag st m r al row play) ents day count → Same (standing tag st m r al row play) ents s' ents'
+in_state t Armed tag m r al row play ents day count f s' ents' e = by_rounds t tag m r al row play ents day count f s' ents' (ltb r 1000000) e
+in_state t Staked tag m r al row play ents day count f s' ents' e = (ap (λ x. x.standing) e, ap (λ x. x.alarms) e)
+in_state t Rung tag m r al row play ents day count f s' ents' e = (ap (λ x. x.standing) e, ap (λ x. x.alarms) e)
 
 -- a refused round leaves the monitor and the alarm book ents they were
 pub watched_refused : (t : Terms) (s : Standing) (ents : List Alarm) (day count : ℕ) (f : ReplayFault) (s' : Standing) (ents' : List Alarm) →
     round (Err f) s' ents' ≡ watched t s ents day count → Same s ents s' ents'
-watched_refused t s ents day count f s' ents' e = in_state t s.state s.ledger s.rounds s.alarms s.row s.play ents day count f s' ents' e
+watched_refused t s ents day count f s' ents' e = in_state t s.state s.tag s.ledger s.rounds s.alarms s.row s.strategy ents day count f s' ents' e
 
 goes_to_round : (t : Terms) (p : Places) (w : Watch) (number day count : ℕ) (st : State) → st ≡ w.standing.state → (st ≡ Rung → ⊥) → above w.last day ≡ true → all_used p.alarms w.alarms ≡ false →
     watched_count t w day count ≡ count_read t p w number day count

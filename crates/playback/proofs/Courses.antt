@@ -10,7 +10,7 @@ use Rattle.edetector.specs.declared.fault.MonitorFault.TheVariants.{NotArmed, Sp
 use Rattle.edetector.specs.Rules.{bet}
 use Rattle.edetector.specs.Tables.{class_of}
 use Rattle.edetector.specs.Bettors.{Strategy}
-use Rattle.edetector.specs.Ledger.{Terms, Standing, outcome, staked, settled, rings, rearm_outcome}
+use Rattle.edetector.specs.Ledger.{Terms, Standing, outcome, after_stake, after_settle, rings, rearm_outcome}
 use Rattle.edetector.specs.States.{is_staked}
 use Rattle.edetector.specs.View.{standing}
 use Rattle.plantlog.specs.Format.{Fields, Table, Setup, Alternative, Count, Rearm, End}
@@ -27,7 +27,7 @@ use Rattle.playback.specs.Watch.{Watch, Places, Done, faulted, counted, alarm_if
 use Rattle.playback.specs.Replaying.{Spot, behind, Finish, went, stopped, fault_at, at_end, watching}
 use Rattle.playback.specs.Course.{Event, Settled, Passed, Rearmed, after_event, after_all, alarm_of, alarms_of, unwatched_of, passed_in, day_of, days_of, RisingDays, last_day, free_in, free_after, Rightly, AllRightly, EventOf, NoCount, NotTaken, Reached, WholeCourse, HasWholeCourse}
 use Rattle.playback.proofs.Counting.{settled_fits}
-use Rattle.playback.proofs.Rounds.{has_free, none_free, spent, some_left, other_count, alarm_behind, heard_by, rearm_keeps, armed_next}
+use Rattle.playback.proofs.Rounds.{has_free, none_free, spent, some_left, other_count, alarm_behind, alarms_by, rearm_keeps, armed_next}
 
 -- nothing more happens
 no_event : (t : Terms) (p : Places) (s : Stream) (at : Spot) (w : Watch) (x : Option Fault) → Reached (free_in p w) w at s x → WholeCourse t p s at w (stopped w x)
@@ -39,7 +39,7 @@ no_event t p s at w x to = record {
   standing = refl;
   alarms = sym (append-nil w.alarms);
   unwatched = sym (append-nil w.unwatched);
-  heard = omega arith;
+  alarms_told = omega arith;
   settled = omega arith;
   counts = omega arith;
   last = refl;
@@ -57,7 +57,7 @@ record Leads (t : Terms) (p : Places) (f : Fields) (at : Spot) (w w1 : Watch) (e
   pub standing : w1.standing ≡ after_event t w.standing e
   pub alarms : w1.alarms ≡ w.alarms ++ alarm_of t w.standing e
   pub unwatched : w1.unwatched ≡ w.unwatched ++ passed_in e
-  pub heard : w1.standing.alarms ≡ w.standing.alarms + length (alarm_of t w.standing e)
+  pub alarms_told : w1.standing.alarms ≡ w.standing.alarms + length (alarm_of t w.standing e)
   pub settled : w1.standing.rounds + length (passed_in e) ≡ w.standing.rounds + length (day_of e)
   pub counts : w1.counts ≡ w.counts + length (day_of e)
   pub last : w1.last ≡ last_day w.last (day_of e)
@@ -98,7 +98,7 @@ begins t p f n rest at w w1 end e l c =
       standing = c.standing ∙ ap (λ s. after_all t s c.events) l.standing;
       alarms = c.alarms ∙ ap₂ (λ a s. a ++ alarms_of t s c.events) l.alarms l.standing ∙ append_assoc w.alarms (alarm_of t w.standing e) (alarms_of t (after_event t w.standing e) c.events);
       unwatched = c.unwatched ∙ ap (λ u. u ++ unwatched_of c.events) l.unwatched ∙ append_assoc w.unwatched (passed_in e) (unwatched_of c.events);
-      heard = omega (arith, c.heard, l.heard, ap (λ s. length (alarms_of t s c.events)) l.standing, length-append (alarm_of t w.standing e) (alarms_of t (after_event t w.standing e) c.events));
+      alarms_told = omega (arith, c.alarms_told, l.alarms_told, ap (λ s. length (alarms_of t s c.events)) l.standing, length-append (alarm_of t w.standing e) (alarms_of t (after_event t w.standing e) c.events));
       settled = omega (arith, c.settled, l.settled, length-append (passed_in e) (unwatched_of c.events), length-append (day_of e) days);
       counts = omega (arith, c.counts, l.counts, length-append (day_of e) days);
       last = c.last ∙ ap (λ x. last_day x days) l.last ∙ last_on w.last e days;
@@ -115,29 +115,29 @@ module _ (t : Terms) (p : Places) (n : ℕ) (rest : Stream) (ih : (at : Spot) (w
   stays : (w : Watch) (f : ReplayFault) → NoCount (free_in p w) w day f → On w (faulted w f)
   stays w f why = still t p (Next (Count day count) n rest) at w f why
 
-  module _ (m r al : ℕ) (row : List ℕ) (play : Strategy) (last : Option ℕ) (counts : ℕ) (ents : List Alarm) (us : List Unwatched) (later : above last day ≡ true) where
+  module _ (tag m r al : ℕ) (row : List ℕ) (play : Strategy) (last : Option ℕ) (counts : ℕ) (ents : List Alarm) (us : List Unwatched) (later : above last day ≡ true) where
     abbrev armed : Watch
-    armed = watch (standing Armed m r al row play) last counts ents us
+    armed = watch (standing tag Armed m r al row play) last counts ents us
 
     abbrev after : Standing
-    after = settled t (standing Staked m r al (play []) play) (class_of (length t.nulls) count)
+    after = after_settle t (standing tag Staked m r al (play []) play) (class_of (length t.nulls) count)
 
     abbrev rang : Bool
-    rang = rings t (standing Staked m r al (play []) play) (class_of (length t.nulls) count)
+    rang = rings t (standing tag Staked m r al (play []) play) (class_of (length t.nulls) count)
 
     abbrev entered : Watch
     entered = counted armed day after (alarm_if rang day after ents) us
 
     settles : ltb r 1000000 ≡ true → all_used p.alarms ents ≡ false → Leads t p (Count day count) at armed entered (Settled day count)
     settles left room =
-        let next_is = armed_next t m r al row play day count left in
+        let next_is = armed_next t tag m r al row play day count left in
         record {
           of = refl;
           rightly = (refl, some_left r left, has_free p.alarms (length ents) room, ap (λ s. s.ledger) next_is);
           standing = sym next_is;
           alarms = alarm_behind rang day after ents ∙ ap (λ s. ents ++ alarm_if (leb (t.threshold * bet) s.ledger) day s []) (sym next_is);
           unwatched = sym (append-nil us);
-          heard = heard_by rang day after al ∙ ap (λ s. al + length (alarm_if (leb (t.threshold * bet) s.ledger) day s [])) (sym next_is);
+          alarms_told = alarms_by rang day after al ∙ ap (λ s. al + length (alarm_if (leb (t.threshold * bet) s.ledger) day s [])) (sym next_is);
           settled = omega arith;
           counts = refl;
           last = refl;
@@ -145,11 +145,11 @@ module _ (t : Terms) (p : Places) (n : ℕ) (rest : Stream) (ih : (at : Spot) (w
         }
 
     by_rounds : all_used p.alarms ents ≡ false → (b : Bool) → ltb r 1000000 ≡ b →
-        let o = cond b (outcome {X = Result OpenSlip MonitorFault} (Ok (record { tag = t.tag; number = r + 1 })) (staked armed.standing)) (outcome (Err Spent) armed.standing) in
+        let o = cond b (outcome {X = Result OpenSlip MonitorFault} (Ok (record { tag = tag; number = r + 1 })) (after_stake armed.standing)) (outcome (Err Spent) armed.standing) in
         let x = shown t ents day count o.answer o.after in
         On armed (round_done armed day x.answer x.standing x.alarms)
     by_rounds room true left =
-        let fits = settled_fits t m r al (play []) play ents day count _ refl in
+        let fits = settled_fits t tag m r al (play []) play ents day count _ refl in
         subst (λ (x : Round). On armed (round_done armed day x.answer x.standing x.alarms)) (sym fits)
         (begins t p (Count day count) n rest at armed entered _ (Settled day count) (settles left room) (ih (behind at n) entered))
     by_rounds room false left = stays armed (Monitor Spent) (later, has_free p.alarms (length ents) room, refl, spent r left)
@@ -166,17 +166,17 @@ module _ (t : Terms) (p : Places) (n : ℕ) (rest : Stream) (ih : (at : Spot) (w
   rung_course w e later true room = stays w (Book Full) (later, rw e (none_free p.unwatched (length w.unwatched) room))
   rung_course w e later false room =
       let w1 = counted w day w.standing w.alarms (w.unwatched ++ (record { day = day; «record» = at.number } ∷ [])) in
-      let leads : Leads t p (Count day count) at w w1 (Passed day at.number) = record { of = (count, refl, refl); rightly = (e, has_free p.unwatched (length w.unwatched) room); standing = refl; alarms = sym (append-nil w.alarms); unwatched = refl; heard = omega arith; settled = refl; counts = refl; last = refl; rising = (later, tt) } in
+      let leads : Leads t p (Count day count) at w w1 (Passed day at.number) = record { of = (count, refl, refl); rightly = (e, has_free p.unwatched (length w.unwatched) room); standing = refl; alarms = sym (append-nil w.alarms); unwatched = refl; alarms_told = omega arith; settled = refl; counts = refl; last = refl; rising = (later, tt) } in
       begins t p (Count day count) n rest at w w1 _ (Passed day at.number) leads (ih (behind at n) w1)
 
-  in_state : (st : State) (m r al : ℕ) (row : List ℕ) (play : Strategy) (last : Option ℕ) (counts : ℕ) (ents : List Alarm) (us : List Unwatched) → above last day ≡ true →
-      On (watch (standing st m r al row play) last counts ents us) (by_state st t p (watch (standing st m r al row play) last counts ents us) at.number day count)
-  in_state Armed m r al row play last counts ents us later = armed_course m r al row play last counts ents us later (all_used p.alarms ents) refl
-  in_state Staked m r al row play last counts ents us later = staked_course (watch (standing Staked m r al row play) last counts ents us) refl later (all_used p.alarms ents) refl
-  in_state Rung m r al row play last counts ents us later = rung_course (watch (standing Rung m r al row play) last counts ents us) refl later (all_used p.unwatched us) refl
+  in_state : (st : State) (tag m r al : ℕ) (row : List ℕ) (play : Strategy) (last : Option ℕ) (counts : ℕ) (ents : List Alarm) (us : List Unwatched) → above last day ≡ true →
+      On (watch (standing tag st m r al row play) last counts ents us) (by_state st t p (watch (standing tag st m r al row play) last counts ents us) at.number day count)
+  in_state Armed tag m r al row play last counts ents us later = armed_course tag m r al row play last counts ents us later (all_used p.alarms ents) refl
+  in_state Staked tag m r al row play last counts ents us later = staked_course (watch (standing tag Staked m r al row play) last counts ents us) refl later (all_used p.alarms ents) refl
+  in_state Rung tag m r al row play last counts ents us later = rung_course (watch (standing tag Rung m r al row play) last counts ents us) refl later (all_used p.unwatched us) refl
 
   by_day : (w : Watch) (b : Bool) → above w.last day ≡ b → On w (cond b (by_state w.standing.state t p w at.number day count) (faulted w DayNotAbove))
-  by_day w true later = in_state w.standing.state w.standing.ledger w.standing.rounds w.standing.alarms w.standing.row w.standing.play w.last w.counts w.alarms w.unwatched later
+  by_day w true later = in_state w.standing.state w.standing.tag w.standing.ledger w.standing.rounds w.standing.alarms w.standing.row w.standing.strategy w.last w.counts w.alarms w.unwatched later
   by_day w false later = stays w DayNotAbove later
 
   count_course : (w : Watch) → On w (count_read t p w at.number day count)
@@ -186,19 +186,19 @@ module _ (t : Terms) (p : Places) (n : ℕ) (rest : Stream) (ih : (at : Spot) (w
   rearms : (w w1 : Watch) → (w.standing.state ≡ Staked → ⊥) → w1 ≡ restood w (rearm_outcome t w.standing).after → Leads t p Rearm at w w1 Rearmed
   rearms w w1 calm e =
       let same = rearm_keeps t w.standing (is_staked w.standing.state) in
-      rw e (record { of = refl; rightly = calm; standing = refl; alarms = sym (append-nil w.alarms); unwatched = sym (append-nil w.unwatched); heard = omega (arith, same.0); settled = omega (arith, same.1); counts = omega arith; last = refl; rising = tt })
+      rw e (record { of = refl; rightly = calm; standing = refl; alarms = sym (append-nil w.alarms); unwatched = sym (append-nil w.unwatched); alarms_told = omega (arith, same.0); settled = omega (arith, same.1); counts = omega arith; last = refl; rising = tt })
 
   -- a rearm that is refused leaves the monitor as it was
-  rearm_course : (st : State) (m r al : ℕ) (row : List ℕ) (play : Strategy) (last : Option ℕ) (counts : ℕ) (ents : List Alarm) (us : List Unwatched) →
-      let w = watch (standing st m r al row play) last counts ents us in
+  rearm_course : (st : State) (tag m r al : ℕ) (row : List ℕ) (play : Strategy) (last : Option ℕ) (counts : ℕ) (ents : List Alarm) (us : List Unwatched) →
+      let w = watch (standing tag st m r al row play) last counts ents us in
       let d = rearm_read t w in
       WholeCourse t p (Next Rearm n rest) at w (went at (watching t p rest (behind at n)) d.answer d.after)
-  rearm_course Armed m r al row play last counts ents us =
-      let w = watch (standing Armed m r al row play) last counts ents us in
+  rearm_course Armed tag m r al row play last counts ents us =
+      let w = watch (standing tag Armed m r al row play) last counts ents us in
       begins t p Rearm n rest at w (rearm_read t w).after _ Rearmed (rearms w _ (λ e. cc) refl) (ih (behind at n) (rearm_read t w).after)
-  rearm_course Staked m r al row play last counts ents us = still t p (Next Rearm n rest) at (watch (standing Staked m r al row play) last counts ents us) (Monitor NotArmed) (refl, refl)
-  rearm_course Rung m r al row play last counts ents us =
-      let w = watch (standing Rung m r al row play) last counts ents us in
+  rearm_course Staked tag m r al row play last counts ents us = still t p (Next Rearm n rest) at (watch (standing tag Staked m r al row play) last counts ents us) (Monitor NotArmed) (refl, refl)
+  rearm_course Rung tag m r al row play last counts ents us =
+      let w = watch (standing tag Rung m r al row play) last counts ents us in
       begins t p Rearm n rest at w (rearm_read t w).after _ Rearmed (rearms w _ (λ e. cc) refl) (ih (behind at n) (rearm_read t w).after)
 
 -- bytes follow the end
@@ -223,5 +223,5 @@ has_whole_course t p (Next (Setup a r b) n rest) at w = still t p (Next (Setup a
 has_whole_course t p (Next (Alternative ws) n rest) at w = still t p (Next (Alternative ws) n rest) at w NotAllowed refl
 has_whole_course t p (Next (Count day count) n rest) at w = count_course t p n rest (λ at' w'. has_whole_course t p rest at' w') at day count w
 has_whole_course t p (Next Rearm n rest) at w =
-    rearm_course t p n rest (λ at' w'. has_whole_course t p rest at' w') at w.standing.state w.standing.ledger w.standing.rounds w.standing.alarms w.standing.row w.standing.play w.last w.counts w.alarms w.unwatched
+    rearm_course t p n rest (λ at' w'. has_whole_course t p rest at' w') at w.standing.state w.standing.tag w.standing.ledger w.standing.rounds w.standing.alarms w.standing.row w.standing.strategy w.last w.counts w.alarms w.unwatched
 has_whole_course t p (Next (End counts) n rest) at w = end_course t p counts n rest at w (eqb counts w.counts) refl

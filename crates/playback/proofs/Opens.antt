@@ -1,10 +1,6 @@
 -- The header on plain data.
 use Rattle.std.proofs.Common.{◌≡◌, ℕ, true, List, [], length, Ok, Err, Result, sym, refl, ap, ◌∙◌, ap₂}
-use Rattle.edetector.specs.declared.fixed.Fixed.{Fixed as FixedBettor}
-use Rattle.edetector.specs.declared.adaptive.Adaptive.{Adaptive as AdaptiveBettor}
-use Rattle.edetector.specs.declared.mixture.Mixture.{Mixture as MixtureBettor}
-use Rattle.edetector.specs.Tallies.{tally_of}
-use Rattle.edetector.specs.Bettors.{Strategy, fixed, adaptive, mixture, no_tally}
+use Rattle.edetector.specs.Bettors.{Meaning, adaptive_meaning}
 use Rattle.plantlog.specs.declared.record.BettorChoice.TheVariants.{Adaptive}
 use Rattle.plantlog.specs.declared.record.Setup.{Setup}
 use Rattle.plantlog.specs.Results.{and_then}
@@ -19,7 +15,7 @@ use Rattle.playback.specs.Stream.{Stream, stream_of}
 use Rattle.playback.specs.Watch.{Places}
 use Rattle.playback.specs.Replaying.{Spot, behind, fault_in}
 use Rattle.playback.specs.Rest.{Rest, at_spot, behind_record}
-use Rattle.playback.specs.Replayed.{Replay, replay_told, head_of, taken_of, tail_of, with_record, monitored, play_of, has_alternative, as_many, alternative_of, alternative_for, after_setup, after_table, replayed}
+use Rattle.playback.specs.Replayed.{Replay, replay_told, head_of, taken_of, tail_of, with_record, monitored, meaning_of, has_alternative, as_many, alternative_of, alternative_for, after_setup, after_table, replayed}
 use Rattle.playback.proofs.Steps.{streams, head_is}
 
 -- a fault before there is a monitor, with empty books
@@ -59,7 +55,7 @@ module _ {X : Type 0} (rest : Rest) (of : Result Fields ReplayFault → Result X
 
 module _ (p : Places) (rest : Rest) where
   abbrev plays_by : List ℕ → Setup → List ℕ → Stream → Spot → Replay
-  plays_by ws x alts = monitored p ws x (play_of x.bettor ws alts)
+  plays_by ws x alts = monitored p x (meaning_of x.bettor ws alts)
 
   is_third : (ws : List ℕ) (x : Setup) → has_alternative x.bettor ≡ true →
       with_record (alternative_of ws (head_of (stream_of rest.left))) (stream_of rest.left) rest.at (plays_by ws x) ≡ after_setup p ws x (stream_of rest.left) rest.at
@@ -75,8 +71,8 @@ module _ (p : Places) (rest : Rest) where
   third_refused ws x f other e = refused rest (alternative_of ws) (plays_by ws x) f e ∙ is_third ws x other
 
   -- the adaptive bettor needs no alternative
-  pub goes_adaptive : (ws : List ℕ) (x : Setup) (play : Strategy) → x.bettor ≡ Adaptive → play ≡ adaptive ws (no_tally (length ws)) → monitored p ws x play (stream_of rest.left) rest.at ≡ after_setup p ws x (stream_of rest.left) rest.at
-  goes_adaptive ws x play is plays = rw (is, plays) refl
+  pub goes_adaptive : (ws : List ℕ) (x : Setup) (m : Meaning) → x.bettor ≡ Adaptive → m ≡ adaptive_meaning ws [] → monitored p x m (stream_of rest.left) rest.at ≡ after_setup p ws x (stream_of rest.left) rest.at
+  goes_adaptive ws x m is plays = rw (is, plays) refl
 
   module _ (rest' : Rest) (past : rest' ≡ behind_record rest) where
     pub first_taken : (ws : List ℕ) → Ok ws ≡ at_spot rest.at (and_then (next_fields rest.left) only_table) → after_table p ws (stream_of rest'.left) rest'.at ≡ replayed p (stream_of rest.left) rest.at
@@ -92,13 +88,13 @@ module _ (p : Places) (rest : Rest) where
         goes_on rest (λ r. and_then r only_setup) (after_setup p ws) rest' past x f.0 f.1 read
 
     -- an alternative with as many classes
-    pub third_taken : (ws : List ℕ) (x : Setup) (alts : List ℕ) (play : Strategy) → has_alternative x.bettor ≡ true → Ok alts ≡ at_spot rest.at (alternative_for ws rest.left) → play ≡ play_of x.bettor ws alts →
-        monitored p ws x play (stream_of rest'.left) rest'.at ≡ after_setup p ws x (stream_of rest.left) rest.at
-    third_taken ws x alts play other e plays =
+    pub third_taken : (ws : List ℕ) (x : Setup) (alts : List ℕ) (m : Meaning) → has_alternative x.bettor ≡ true → Ok alts ≡ at_spot rest.at (alternative_for ws rest.left) → m ≡ meaning_of x.bettor ws alts →
+        monitored p x m (stream_of rest'.left) rest'.at ≡ after_setup p ws x (stream_of rest.left) rest.at
+    third_taken ws x alts m other e plays =
         let read = at_spot_ok rest.at _ alts e in
         let said = accepted_by (and_then (next_fields rest.left) only_alternative) (as_many ws) alts read in
         let f = accepted_by (next_fields rest.left) only_alternative said.0 (sym said.1) in
-        ap (λ q. monitored p ws x q (stream_of rest'.left) rest'.at) plays
+        ap (λ q. monitored p x q (stream_of rest'.left) rest'.at) plays
         ∙ goes_on rest (alternative_of ws) (plays_by ws x) rest' past alts f.0 f.1 read ∙ is_third ws x other
 
 -- behind a table and a setup
@@ -106,12 +102,3 @@ pub header_taken : (p : Places) (rest rest1 rest2 : Rest) → rest1 ≡ behind_r
     Ok ws ≡ at_spot rest.at (and_then (next_fields rest.left) only_table) → Ok x ≡ at_spot rest1.at (and_then (next_fields rest1.left) only_setup) →
     after_setup p ws x (stream_of rest2.left) rest2.at ≡ replayed p (stream_of rest.left) rest.at
 header_taken p rest rest1 rest2 past past1 ws x e e1 = second_taken p rest1 rest2 past1 ws x e1 ∙ first_taken p rest rest1 past ws e
-
--- what a mixture of the fixed and the adaptive bettor plays
-pub mixed_plays : (m : MixtureBettor FixedBettor AdaptiveBettor) (f : FixedBettor) (a : AdaptiveBettor) (n : List ℕ) → m ≡ record { first = f; second = a } → f.null ≡ n → a.null ≡ n → tally_of a ≡ no_tally (length n) →
-    ◌≡◌ {A = Strategy} (mixture m.first.null m.second.null (fixed m.first.null m.first.alternative) (adaptive m.second.null (tally_of m.second)))
-    (mixture n n (fixed n f.alternative) (adaptive n (no_tally (length n))))
-mixed_plays m f a n made e1 e2 e3 =
-    ap (λ x. mixture x.first.null x.second.null (fixed x.first.null x.first.alternative) (adaptive x.second.null (tally_of x.second))) made
-    ∙ ap (λ x. mixture x a.null (fixed x f.alternative) (adaptive a.null (tally_of a))) e1
-    ∙ ap₂ (λ x y. mixture n x (fixed n f.alternative) (adaptive x y)) e2 e3

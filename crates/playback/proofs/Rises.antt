@@ -15,7 +15,7 @@ use Rattle.daybook.specs.declared.entry.unwatched.Unwatched.{Unwatched}
 use Rattle.daybook.specs.Books.{all_used, above, above_in}
 use Rattle.daybook.specs.declared.entry.alarm.Alarm.{Alarm}
 use Rattle.playback.specs.Rising.{Later, Rising}
-use Rattle.playback.specs.Watch.{Watch, Places, Done, done, faulted, counted, after_settle, shown, watched, round_done, by_state, count_read}
+use Rattle.playback.specs.Watch.{Watch, Places, Done, done, faulted, counted, round_of, shown, watched, round_done, by_state, count_read}
 
 above_push : {X : Type 0} (key : X → ℕ) (xs : List X) (v : X) (d : ℕ) → above_in key (xs ++ (v ∷ [])) d ≡ ltb (key v) d
 above_push key [] v d = refl
@@ -41,14 +41,14 @@ grown_later : {X : Type 0} (key : X → ℕ) (last : Option ℕ) (day : ℕ) (xs
 grown_later key last day xs ys h all (inl e) = rw e (later_same key last day xs h all)
 grown_later key last day xs ys h all (inr g) = let e = g.2 in rw e (later_push key day xs g.0 g.1)
 
-settle_grown : (x : Result Bool (Refused ShownSlip)) (day : ℕ) (s : Standing) (ents : List Alarm) → Grown (λ a. a.day) day ents (after_settle x day s ents).alarms
+settle_grown : (x : Result Bool (Refused ShownSlip)) (day : ℕ) (s : Standing) (ents : List Alarm) → Grown (λ a. a.day) day ents (round_of x day s ents).alarms
 settle_grown (Ok true) day s ents = inr (record { day = day; round = s.rounds; ledger = s.ledger }, refl, refl)
 settle_grown (Ok false) day s ents = inl refl
 settle_grown (Err r) day s ents = inl refl
 
 shown_grown : (t : Terms) (ents : List Alarm) (day count : ℕ) (x : Result OpenSlip MonitorFault) (s : Standing) → Grown (λ a. a.day) day ents (shown t ents day count x s).alarms
 shown_grown t ents day count (Ok slip) s =
-    let o = settle_outcome t s (record { tag = slip.tag; number = slip.number; count = count }) in settle_grown o.answer day o.after ents
+    let o = settle_outcome t s (record { stake = slip; count = count }) in settle_grown o.answer day o.after ents
 shown_grown t ents day count (Err f) s = inl refl
 
 watched_grown : (t : Terms) (s : Standing) (ents : List Alarm) (day count : ℕ) → Grown (λ a. a.day) day ents (watched t s ents day count).alarms

@@ -9,10 +9,10 @@ use Rattle.edetector.specs.declared.fault.MonitorFault.{MonitorFault}
 use Rattle.edetector.specs.declared.fault.MonitorFault.TheVariants.{NotArmed, Spent, Misfit}
 use Rattle.edetector.specs.declared.fault.Refused.{Refused}
 use Rattle.edetector.specs.declared.slip.ShownSlip.{ShownSlip}
-use Rattle.edetector.specs.Plans.{next}
+use Rattle.edetector.specs.Plans.{next_outcome}
 use Rattle.edetector.specs.Tables.{class_of}
 use Rattle.edetector.specs.Bettors.{Strategy}
-use Rattle.edetector.specs.Ledger.{Terms, Standing, outcome, staked, settled, rings, rearmed}
+use Rattle.edetector.specs.Ledger.{Terms, Standing, outcome, after_stake, after_settle, rings, after_rearm}
 use Rattle.edetector.specs.View.{standing}
 use Rattle.daybook.specs.declared.entry.alarm.Alarm.{Alarm}
 use Rattle.playback.specs.Watch.{alarm_if}
@@ -50,26 +50,26 @@ alarm_behind true day s ents = refl
 alarm_behind false day s ents = sym (append-nil ents)
 
 -- a round that rang is one alarm more
-pub heard_by : (b : Bool) (day : ℕ) (s : Standing) (al : ℕ) → cond b (al + 1) al ≡ al + length (alarm_if b day s [])
-heard_by true day s al = omega arith
-heard_by false day s al = omega arith
+pub alarms_by : (b : Bool) (day : ℕ) (s : Standing) (al : ℕ) → cond b (al + 1) al ≡ al + length (alarm_if b day s [])
+alarms_by true day s al = omega arith
+alarms_by false day s al = omega arith
 
 -- a rearm, taken or not, is no round and no alarm
 pub rearm_keeps : (t : Terms) (s : Standing) (b : Bool) →
-    let o = cond b (outcome {X = Result (Unit {0}) MonitorFault} (Err NotArmed) s) (outcome (Ok tt) (rearmed s)) in
+    let o = cond b (outcome {X = Result (Unit {0}) MonitorFault} (Err NotArmed) s) (outcome (Ok tt) (after_rearm t s)) in
     (o.after.alarms ≡ s.alarms) × (o.after.rounds ≡ s.rounds)
 rearm_keeps t s true = (refl, refl)
 rearm_keeps t s false = (refl, refl)
 
 -- what an armed monitor with rounds left does with a count
-pub armed_next : (t : Terms) (m r al : ℕ) (row : List ℕ) (play : Strategy) (day count : ℕ) → ltb r 1000000 ≡ true →
-    after_event t (standing Armed m r al row play) (Settled day count) ≡ settled t (standing Staked m r al (play []) play) (class_of (length t.nulls) count)
-armed_next t m r al row play day count left =
-    let tags : eqb t.tag t.tag ≡ true = grind (arith, nat_tests) in
+pub armed_next : (t : Terms) (tag m r al : ℕ) (row : List ℕ) (play : Strategy) (day count : ℕ) → ltb r 1000000 ≡ true →
+    after_event t (standing tag Armed m r al row play) (Settled day count) ≡ after_settle t (standing tag Staked m r al (play []) play) (class_of (length t.nulls) count)
+armed_next t tag m r al row play day count left =
+    let tags : eqb tag tag ≡ true = grind (arith, nat_tests) in
     let numbers : eqb (r + 1) (r + 1) ≡ true = grind (arith, nat_tests) in
-    let s = standing Armed m r al row play in
-    let u = standing Staked m r al (play []) play in
+    let s = standing tag Armed m r al row play in
+    let u = standing tag Staked m r al (play []) play in
     let k = class_of (length t.nulls) count in
-    let slip : ShownSlip = record { tag = t.tag; number = r + 1; count = count } in
-    ap (λ b. (next t (cond b (outcome {X = Result OpenSlip MonitorFault} (Ok (record { tag = t.tag; number = r + 1 })) (staked s)) (outcome (Err Spent) s)).after count).after) left
-    ∙ ap (λ b. (cond b (outcome {X = Result Bool (Refused ShownSlip)} (Ok (rings t u k)) (settled t u k)) (outcome (Err (record { fault = Misfit; slip = slip })) u)).after) (ap₂ (λ x y. x && y) tags numbers)
+    let slip : ShownSlip = record { stake = record { tag = tag; number = r + 1 }; count = count } in
+    ap (λ b. (next_outcome t (cond b (outcome {X = Result OpenSlip MonitorFault} (Ok (record { tag = tag; number = r + 1 })) (after_stake s)) (outcome (Err Spent) s)).after count).after) left
+    ∙ ap (λ b. (cond b (outcome {X = Result Bool (Refused ShownSlip)} (Ok (rings t u k)) (after_settle t u k)) (outcome (Err (record { fault = Misfit; slip = slip })) u)).after) (ap₂ (λ x y. x && y) tags numbers)

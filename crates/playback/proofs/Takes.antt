@@ -9,9 +9,9 @@ use Rattle.edetector.specs.declared.value.ValueFault.TheVariants.{Alternative as
 use Rattle.edetector.specs.Rules.{bet}
 use Rattle.edetector.specs.States.{is_staked}
 use Rattle.edetector.specs.Tables.{class_of, from_to}
-use Rattle.edetector.specs.Bettors.{Strategy}
-use Rattle.edetector.specs.Ledger.{Terms, Standing, rings, rearm_outcome}
-use Rattle.edetector.specs.View.{terms, standing}
+use Rattle.edetector.specs.Bettors.{Strategy, Meaning}
+use Rattle.edetector.specs.Ledger.{Terms, Standing, rings, rearm_outcome, terms}
+use Rattle.edetector.specs.View.{standing}
 use Rattle.plantlog.specs.declared.record.Setup.{Setup as SetupValue}
 use Rattle.plantlog.specs.Calls.{span}
 use Rattle.plantlog.specs.Format.{Fields, Table, Setup, Alternative, Count, Rearm, End, record_bytes}
@@ -22,7 +22,7 @@ use Rattle.playback.specs.declared.stop.ReplayFault.TheVariants.{Value, CountsDi
 use Rattle.playback.specs.Accepted.{NoFault, WatchedRecords, AfterSetup, LogRecords, counts_in, Takes}
 use Rattle.playback.specs.Course.{Settled, Passed, after_event, alarm_of, passed_in}
 use Rattle.playback.specs.Front.{rule_named, bettor_named}
-use Rattle.playback.specs.Replayed.{Replay, rule_base, begun, finished, no_monitor, with_record, monitored, play_of, has_alternative, alternative_of, after_setup, after_table, replayed, head_of}
+use Rattle.playback.specs.Replayed.{Replay, rule_base, begun, finished, no_monitor, with_record, monitored, meaning_of, has_alternative, alternative_of, after_setup, after_table, replayed, head_of}
 use Rattle.playback.specs.Replaying.{Spot, longest, first_spot, nowhere, behind, went, at_end, watching}
 use Rattle.playback.specs.Stream.{Stream, Over, Next, stream_of}
 use Rattle.playback.specs.Watch.{Watch, Places, Done, taken, alarm_if, restood}
@@ -56,19 +56,19 @@ one_alarm : (b : Bool) (day : ℕ) (s : Standing) → length (alarm_if b day s [
 one_alarm true day s = omega arith
 one_alarm false day s = omega arith
 
-after_settled : (t : Terms) (st : State) (m r al : ℕ) (row : List ℕ) (play : Strategy) (day count : ℕ) → st ≡ Armed → ltb r 1000000 ≡ true →
-    let s = after_event t (standing st m r al row play) (Settled day count) in
+after_settled : (t : Terms) (st : State) (tag m r al : ℕ) (row : List ℕ) (play : Strategy) (day count : ℕ) → st ≡ Armed → ltb r 1000000 ≡ true →
+    let s = after_event t (standing tag st m r al row play) (Settled day count) in
     (s.state ≡ Staked → ⊥) × (s.rounds ≡ r + 1)
-after_settled t Armed m r al row play day count is left =
-    let next_is = armed_next t m r al row play day count left in
-    let rang = rings t (standing Staked m r al (play []) play) (class_of (length t.nulls) count) in
+after_settled t Armed tag m r al row play day count is left =
+    let next_is = armed_next t tag m r al row play day count left in
+    let rang = rings t (standing tag Staked m r al (play []) play) (class_of (length t.nulls) count) in
     (λ e. calm_by rang (sym (ap (λ s. s.state) next_is) ∙ e), ap (λ s. s.rounds) next_is)
-after_settled t _ m r al row play day count is left = cc
+after_settled t _ tag m r al row play day count is left = cc
 
-after_rearm : (t : Terms) (st : State) (m r al : ℕ) (row : List ℕ) (play : Strategy) → (st ≡ Staked → ⊥) → (rearm_outcome t (standing st m r al row play)).after.state ≡ Staked → ⊥
-after_rearm t Armed m r al row play calm e = cc
-after_rearm t Staked m r al row play calm e = calm refl
-after_rearm t Rung m r al row play calm e = cc
+after_rearm : (t : Terms) (st : State) (tag m r al : ℕ) (row : List ℕ) (play : Strategy) → (st ≡ Staked → ⊥) → (rearm_outcome t (standing tag st m r al row play)).after.state ≡ Staked → ⊥
+after_rearm t Armed tag m r al row play calm e = cc
+after_rearm t Staked tag m r al row play calm e = calm refl
+after_rearm t Rung tag m r al row play calm e = cc
 
 -- no bet is staked, and rounds and places are left for so many counts
 record Fine (p : Places) (w : Watch) (counts : ℕ) : Type 0 where
@@ -104,8 +104,8 @@ module _ (t : Terms) (p : Places) where
     settles is =
         let s = w.standing in
         let left = rounds_left s.rounds (counts_in fs) fine.rounds in
-        let read = settled_read t p at.number day n s.state s.ledger s.rounds s.alarms s.row s.play w.last w.counts w.alarms w.unwatched is rises (not_full p.alarms (length w.alarms) (counts_in fs) fine.alarms) left in
-        let after = after_settled t s.state s.ledger s.rounds s.alarms s.row s.play day n is left in
+        let read = settled_read t p at.number day n s.state s.tag s.ledger s.rounds s.alarms s.row s.strategy w.last w.counts w.alarms w.unwatched is rises (not_full p.alarms (length w.alarms) (counts_in fs) fine.alarms) left in
+        let after = after_settled t s.state s.tag s.ledger s.rounds s.alarms s.row s.strategy day n is left in
         let later = after_event t s (Settled day n) in
         goes_on (Count day n) fs writable at w (led t w (Settled day n)) _ (λ k rest. refl) read
         (ih _ (led t w (Settled day n)) ordered (record {
@@ -134,11 +134,11 @@ module _ (t : Terms) (p : Places) where
   rearmed_on : (fs : List Fields) → Writable Rearm → Goes fs → Goes (Rearm ∷ fs)
   rearmed_on fs writable ih at w ordered fine =
       let s = w.standing in
-      let read = rearm_taken t s.state s.ledger s.rounds s.alarms s.row s.play w.last w.counts w.alarms w.unwatched fine.calm in
+      let read = rearm_taken t s.state s.tag s.ledger s.rounds s.alarms s.row s.strategy w.last w.counts w.alarms w.unwatched fine.calm in
       let same = rearm_keeps t s (is_staked s.state) in
       goes_on Rearm fs writable at w (restood w (rearm_outcome t s).after) _ (λ k rest. refl) read
       (ih _ (restood w (rearm_outcome t s).after) ordered (record {
-        calm = after_rearm t s.state s.ledger s.rounds s.alarms s.row s.play fine.calm;
+        calm = after_rearm t s.state s.tag s.ledger s.rounds s.alarms s.row s.strategy fine.calm;
         rounds = omega (arith, same.1, fine.rounds);
         alarms = fine.alarms;
         unwatched = fine.unwatched;
@@ -164,22 +164,22 @@ record Room (p : Places) (counts : ℕ) : Type 0 where
   pub unwatched : counts ≤ p.unwatched
 
 module _ (p : Places) (ws : List ℕ) (x : SetupValue) (inside : from_to 1 4096 x.threshold ≡ true) where
-  made_so : (play : Strategy) (fs : List Fields) (at : Spot) → AllWritable fs → WatchedRecords None 0 fs → Room p (counts_in fs) → NoFault (monitored p ws x play (stream_of (log_bytes fs)) at).said
-  made_so play fs at writable ordered room =
-      let t = terms ws (rule_base x.rule) x.threshold 1 in
-      let fine : Fine p (begun play) (counts_in fs) = record { calm = λ e. cc; rounds = omega (arith, room.rounds); alarms = omega (arith, room.alarms); unwatched = omega (arith, room.unwatched) } in
-      let none = goes_through t p fs writable at (begun play) ordered fine in
-      subst (λ (b : Bool). NoFault (cond b (finished ws x t (watching t p (stream_of (log_bytes fs)) at (begun play))) (no_monitor at (Value Threshold))).said) (sym inside) none
+  made_so : (m : Meaning) (fs : List Fields) (at : Spot) → AllWritable fs → WatchedRecords None 0 fs → Room p (counts_in fs) → NoFault (monitored p x m (stream_of (log_bytes fs)) at).said
+  made_so m fs at writable ordered room =
+      let t = terms m (rule_base x.rule) x.threshold in
+      let fine : Fine p (begun t m) (counts_in fs) = record { calm = λ e. cc; rounds = omega (arith, room.rounds); alarms = omega (arith, room.alarms); unwatched = omega (arith, room.unwatched) } in
+      let none = goes_through t p fs writable at (begun t m) ordered fine in
+      subst (λ (b : Bool). NoFault (cond b (finished m.nulls x t (watching t p (stream_of (log_bytes fs)) at (begun t m))) (no_monitor at (Value Threshold))).said) (sym inside) none
 
   abbrev plays_by : List ℕ → Stream → Spot → Replay
-  plays_by alts = monitored p ws x (play_of x.bettor ws alts)
+  plays_by alts = monitored p x (meaning_of x.bettor ws alts)
 
   abbrev if_other : Bool → Stream → Spot → Replay
-  if_other b s at = cond b (with_record (alternative_of ws (head_of s)) s at plays_by) (monitored p ws x (play_of x.bettor ws []) s at)
+  if_other b s at = cond b (with_record (alternative_of ws (head_of s)) s at plays_by) (monitored p x (meaning_of x.bettor ws []) s at)
 
   without_alternative : (fs : List Fields) (at : Spot) → AllWritable fs → has_alternative x.bettor ≡ false → WatchedRecords None 0 fs → Room p (counts_in fs) → NoFault (after_setup p ws x (stream_of (log_bytes fs)) at).said
   without_alternative fs at writable has ordered room =
-      subst (λ (b : Bool). NoFault (if_other b (stream_of (log_bytes fs)) at).said) (sym has) (made_so (play_of x.bettor ws []) fs at writable ordered room)
+      subst (λ (b : Bool). NoFault (if_other b (stream_of (log_bytes fs)) at).said) (sym has) (made_so (meaning_of x.bettor ws []) fs at writable ordered room)
 
   with_alternative : (alts : List ℕ) (fs : List Fields) (at : Spot) → AllWritable (Alternative alts ∷ fs) → has_alternative x.bettor ≡ true → length alts ≡ length ws → WatchedRecords None 0 fs → Room p (counts_in fs) →
       NoFault (after_setup p ws x (stream_of (log_bytes (Alternative alts ∷ fs))) at).said
@@ -191,7 +191,7 @@ module _ (p : Places) (ws : List ℕ) (x : SetupValue) (inside : from_to 1 4096 
       ap (λ b. if_other b (stream_of (log_bytes (Alternative alts ∷ fs))) at) has
       ∙ ap (λ s. if_other true s at) (written_next (Alternative alts) fs writable.0)
       ∙ ap (λ b. with_record (cond b (Ok alts) (Err (Value UnlikeClasses))) (Next (Alternative alts) k s) at plays_by) classes in
-      subst (λ (r : Replay). NoFault r.said) (sym is) (made_so (play_of x.bettor ws alts) fs (behind at k) writable.1 ordered room)
+      subst (λ (r : Replay). NoFault r.said) (sym is) (made_so (meaning_of x.bettor ws alts) fs (behind at k) writable.1 ordered room)
 
   from_setup : (fs : List Fields) (at : Spot) → AllWritable fs → AfterSetup (length ws) x.bettor fs → Room p (counts_in fs) → NoFault (after_setup p ws x (stream_of (log_bytes fs)) at).said
   from_setup (Alternative alts ∷ fs) at writable after room = with_alternative alts fs at writable after.0 after.1 after.2 room

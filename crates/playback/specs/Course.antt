@@ -6,7 +6,7 @@ use Rattle.edetector.specs.Rules.{bet}
 use Rattle.edetector.specs.Tables.{class_of, unit_factor}
 use Rattle.edetector.specs.Ledger.{Terms, Standing, stake_outcome, rearm_outcome}
 use Rattle.edetector.specs.States.{most_rounds}
-use Rattle.edetector.specs.Plans.{next}
+use Rattle.edetector.specs.Plans.{next_outcome}
 use Rattle.edetector.specs.declared.fault.MonitorFault.TheVariants.{NotArmed, Spent}
 use Rattle.plantlog.specs.declared.fault.RecordFault.TheVariants.{NoneLeft}
 use Rattle.plantlog.specs.Format.{Fields, Count, Rearm, End}
@@ -29,7 +29,7 @@ pub data Event : Type 0 where
 
 -- the monitor after an event; a settled count is staked on first
 abbrev pub after_event : Terms → Standing → Event → Standing
-after_event t s (Settled day count) = (next t (stake_outcome t s).after count).after
+after_event t s (Settled day count) = (next_outcome t (stake_outcome t s).after count).after
 after_event t s (Passed day number) = s
 after_event t s Rearmed = (rearm_outcome t s).after
 
@@ -84,7 +84,7 @@ free_after t s free e = record { alarms = free.alarms - length (alarm_of t s e);
 
 -- the ledger of a round by the restart rule's recursion: the base of the ledger times the factor of the row now
 abbrev pub recursion : Terms → Standing → ℕ → ℕ
-recursion t s count = (t.base s.ledger * slice_index (s.play []) (class_of (length t.nulls) count)) / unit_factor
+recursion t s count = (t.base s.ledger * slice_index (s.strategy []) (class_of (length t.nulls) count)) / unit_factor
 
 -- a count is settled while the monitor is armed and has rounds left, by the recursion, and passed over while it rings;
 -- the book that it may need has a free place. A rearm is taken unless a bet is staked
@@ -167,7 +167,7 @@ pub record WholeCourse (t : Terms) (p : Places) (s : Stream) (at : Spot) (w : Wa
   pub standing : f.watch.standing ≡ after_all t w.standing events
   pub alarms : f.watch.alarms ≡ w.alarms ++ alarms_of t w.standing events
   pub unwatched : f.watch.unwatched ≡ w.unwatched ++ unwatched_of events
-  pub heard : f.watch.standing.alarms ≡ w.standing.alarms + length (alarms_of t w.standing events)
+  pub alarms_told : f.watch.standing.alarms ≡ w.standing.alarms + length (alarms_of t w.standing events)
   pub settled : f.watch.standing.rounds + length (unwatched_of events) ≡ w.standing.rounds + length (days_of events)
   pub counts : f.watch.counts ≡ w.counts + length (days_of events)
   pub last : f.watch.last ≡ last_day w.last (days_of events)

@@ -3,7 +3,8 @@ use Rattle.std.specs.Prelude.{◌≡◌, ℕ, if◌then◌else◌, List, [], ◌
 use Rattle.edetector.specs.Tables.{class_of}
 use Rattle.edetector.specs.States.{is_armed}
 use Rattle.edetector.specs.Ledger.{Terms, Standing, stake_outcome, rearm_outcome}
-use Rattle.edetector.specs.Plans.{Stake, Rearm, Plan, next, run, rounds_in, alarms_in}
+use Rattle.edetector.specs.Calls.{Stake, Rearm, alarms_in, rounds_in}
+use Rattle.edetector.specs.Plans.{Plan, next_outcome, run}
 use Rattle.playback.specs.Watch.{Places}
 use Rattle.playback.specs.Course.{Event, Settled, Passed, Rearmed, AllRightly, alarms_of}
 
@@ -34,15 +35,15 @@ abbrev pub calls_before : Terms → Standing → List Turn → Plan
 calls_before t s [] past = []
 calls_before t s (ToCount ∷ turns) [] = if is_armed s.state then Stake ∷ [] else calls_before t s turns []
 calls_before t s (ToCount ∷ turns) (k ∷ past) =
-    if is_armed s.state then calls_before t (next t (stake_outcome t s).after k).after turns past else calls_before t s turns (k ∷ past)
+    if is_armed s.state then calls_before t (next_outcome t (stake_outcome t s).after k).after turns past else calls_before t s turns (k ∷ past)
 calls_before t s (ToRearm ∷ turns) [] = Rearm ∷ calls_before t (rearm_outcome t s).after turns []
 calls_before t s (ToRearm ∷ turns) (k ∷ past) = calls_before t (rearm_outcome t s).after turns (k ∷ past)
 
 -- the run on the classes of the settled counts has an alarm for each that the events enter, and a round for each count that
 -- they settle
 pub record IsRun (t : Terms) (p : Plan) (s : Standing) (es : List Event) : Type 0 where
-  pub alarms : alarms_in (run t p s [] (classes_of t es)) ≡ length (alarms_of t s es)
-  pub rounds : rounds_in (run t p s [] (classes_of t es)) ≡ length (classes_of t es)
+  pub alarms : alarms_in (run t p s (classes_of t es)) ≡ length (alarms_of t s es)
+  pub rounds : rounds_in (run t p s (classes_of t es)) ≡ length (classes_of t es)
 
 -- the plan is of the events' turns, and of any that would have come after them
 abbrev pub Planned : Type 0

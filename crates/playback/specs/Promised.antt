@@ -1,12 +1,11 @@
 -- The bound on alarms, of replays.
 use Rattle.std.specs.Prelude.{◌≡◌, ℕ, ◌*◌, ◌≤◌, true, List, length, None}
 use Rattle.edetector.specs.Tables.{null_fault, alternative_fault}
-use Rattle.edetector.specs.Ledger.{fresh}
+use Rattle.edetector.specs.Ledger.{terms, first_standing}
 use Rattle.edetector.specs.Plans.{weighted_alarms, weighted_rounds, Bound}
-use Rattle.edetector.specs.View.{terms}
 use Rattle.plantlog.specs.declared.record.Setup.{Setup}
 use Rattle.plantlog.specs.declared.record.BettorChoice.{BettorChoice}
-use Rattle.playback.specs.Replayed.{rule_base, play_of, has_alternative}
+use Rattle.playback.specs.Replayed.{rule_base, meaning_of, has_alternative}
 use Rattle.playback.specs.Planned.{Turn, calls_before}
 
 -- a null table within its limits and, where the bettor has an alternative, one within its own with as many classes
@@ -21,9 +20,9 @@ pub record WithinLimits (ws : List ℕ) (bettor : BettorChoice) (alts : List ℕ
 -- whether a rearm comes next, the plan is another: the bound is of every plan
 abbrev pub Promised : Type 0
 Promised = (ws : List ℕ) (x : Setup) (alts : List ℕ) → WithinLimits ws x.bettor alts →
-    let t = terms ws (rule_base x.rule) x.threshold 1 in
-    let play = play_of x.bettor ws alts in
+    let m = meaning_of x.bettor ws alts in
+    let t = terms m (rule_base x.rule) x.threshold in
+    let s = first_standing t 1 m in
     ((turns : List Turn) (h : ℕ) →
-    let plan = calls_before t (fresh play) turns in
-    x.threshold * weighted_alarms t play plan h ≤ weighted_rounds t play plan h)
-    × Bound t play
+    let plan = calls_before t s turns in x.threshold * weighted_alarms t s plan h ≤ weighted_rounds t s plan h)
+    × Bound m (rule_base x.rule) x.threshold 1

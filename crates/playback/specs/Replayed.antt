@@ -3,9 +3,8 @@ use Rattle.std.specs.Prelude.{ℕ, Bool, true, false, if◌then◌else◌, List,
 use Rattle.edetector.specs.declared.value.ValueFault.TheVariants.{Alternative as UnlikeClasses, Threshold}
 use Rattle.edetector.specs.Tables.{from_to}
 use Rattle.edetector.specs.Rules.{shiryaev_roberts, page}
-use Rattle.edetector.specs.Bettors.{Strategy, fixed, adaptive, mixture, no_tally}
-use Rattle.edetector.specs.Ledger.{Terms, fresh, read_outcome}
-use Rattle.edetector.specs.View.{terms}
+use Rattle.edetector.specs.Bettors.{Meaning, fixed_meaning, adaptive_meaning, mixture}
+use Rattle.edetector.specs.Ledger.{Terms, terms, first_standing, read_outcome}
 use Rattle.plantlog.specs.declared.fault.RecordFault.TheVariants.{NoneLeft}
 use Rattle.plantlog.specs.declared.record.Setup.{Setup}
 use Rattle.plantlog.specs.declared.record.BettorChoice.{BettorChoice}
@@ -68,8 +67,8 @@ with_record (Ok x) s at go = go x (tail_of s) (behind at (taken_of s))
 with_record (Err f) s at go = no_monitor at f
 
 -- nothing counted yet, and both books empty
-abbrev pub begun : Strategy → Watch
-begun play = record { standing = fresh play; last = None; counts = 0; alarms = []; unwatched = [] }
+abbrev pub begun : Terms → Meaning → Watch
+begun t m = record { standing = first_standing t 1 m; last = None; counts = 0; alarms = []; unwatched = [] }
 
 -- what is told of a finish
 abbrev pub finished : List ℕ → Setup → Terms → Finish → Replay
@@ -87,16 +86,16 @@ finished ws x t f = record {
 }
 
 -- a monitor with tag 1 watches the rest
-abbrev pub monitored : Places → List ℕ → Setup → Strategy → Stream → Spot → Replay
-monitored p ws x play rest at =
-    let t = terms ws (rule_base x.rule) x.threshold 1 in
-    if from_to 1 4096 x.threshold then finished ws x t (watching t p rest at (begun play)) else no_monitor at (Value Threshold)
+abbrev pub monitored : Places → Setup → Meaning → Stream → Spot → Replay
+monitored p x m rest at =
+    let t = terms m (rule_base x.rule) x.threshold in
+    if from_to 1 4096 x.threshold then finished m.nulls x t (watching t p rest at (begun t m)) else no_monitor at (Value Threshold)
 
--- how the bettor plays that a setup names; the adaptive one has no alternative
-abbrev pub play_of : BettorChoice → List ℕ → List ℕ → Strategy
-play_of Fixed ws alts = fixed ws alts
-play_of Adaptive ws alts = adaptive ws (no_tally (length ws))
-play_of Mixture ws alts = mixture ws ws (fixed ws alts) (adaptive ws (no_tally (length ws)))
+-- what the bettor means that a setup names; the adaptive one has no alternative
+abbrev pub meaning_of : BettorChoice → List ℕ → List ℕ → Meaning
+meaning_of Fixed ws alts = fixed_meaning ws alts
+meaning_of Adaptive ws alts = adaptive_meaning ws []
+meaning_of Mixture ws alts = mixture (fixed_meaning ws alts) (adaptive_meaning ws [])
 
 abbrev pub has_alternative : BettorChoice → Bool
 has_alternative Fixed = true
@@ -116,8 +115,8 @@ alternative_for ws left = alternative_of ws (next_fields left)
 -- an alternative comes next exactly if the bettor has one
 abbrev pub after_setup : Places → List ℕ → Setup → Stream → Spot → Replay
 after_setup p ws x s at =
-    if has_alternative x.bettor then with_record (alternative_of ws (head_of s)) s at (λ alts. monitored p ws x (play_of x.bettor ws alts))
-    else monitored p ws x (play_of x.bettor ws []) s at
+    if has_alternative x.bettor then with_record (alternative_of ws (head_of s)) s at (λ alts. monitored p x (meaning_of x.bettor ws alts))
+    else monitored p x (meaning_of x.bettor ws []) s at
 
 -- a setup, and what follows it
 abbrev pub after_table : Places → List ℕ → Stream → Spot → Replay

@@ -61,13 +61,13 @@ abbrev pub alarm_if : Bool → ℕ → Standing → List Alarm → List Alarm
 alarm_if true day s alarms = alarms ++ (record { day = day; round = s.rounds; ledger = s.ledger } ∷ [])
 alarm_if false day s alarms = alarms
 
-abbrev pub after_settle : Result Bool (Refused ShownSlip) → ℕ → Standing → List Alarm → Round
-after_settle (Ok b) day s alarms = round (Ok tt) s (alarm_if b day s alarms)
-after_settle (Err r) day s alarms = round (Err (Monitor r.fault)) s alarms
+abbrev pub round_of : Result Bool (Refused ShownSlip) → ℕ → Standing → List Alarm → Round
+round_of (Ok b) day s alarms = round (Ok tt) s (alarm_if b day s alarms)
+round_of (Err r) day s alarms = round (Err (Monitor r.fault)) s alarms
 
 -- a shown slip is settled
 abbrev pub settled_slip : Terms → Standing → List Alarm → ℕ → ShownSlip → Round
-settled_slip t s alarms day slip = let o = settle_outcome t s slip in after_settle o.answer day o.after alarms
+settled_slip t s alarms day slip = let o = settle_outcome t s slip in round_of o.answer day o.after alarms
 
 abbrev pub shown : Terms → List Alarm → ℕ → ℕ → Result OpenSlip MonitorFault → Standing → Round
 shown t alarms day count (Ok slip) s = settled_slip t s alarms day (shown_slip slip count)

@@ -1,5 +1,6 @@
 // The header, and the monitor that it asks for.
 ghost use Rattle.std.specs.Prelude.{◌≡◌, IfOk, OnOk};
+ghost use Rattle.edetector.specs.FixedTables.{tables_of};
 ghost use Rattle.plantlog.specs.Results.{of_ok};
 ghost use Rattle.playback.specs.Held.{places_lent, NothingYet, KeepsBooks};
 ghost use Rattle.playback.specs.Replayed.{monitored, replayed, replay_told, alternative_for};
@@ -31,9 +32,11 @@ fn run<B: Bettor + Drop>(
     mut records: Records<'_>,
     books: &mut Books<'_, '_, '_>,
 ) -> Result<Run, Fault>
-    requires table { B.nulls bettor ≡ null }
+    requires table { (B.meaning bettor).nulls ≡ null }
     requires begins { NothingYet records books.old }
-    ensures value { replay_told result books.new.alarms.now books.new.unwatched.now ≡ monitored (places_lent books.old) null setup (B.strategy bettor) (stream_of records.entry.left) records.entry.at }
+    ensures value {
+        replay_told result books.new.alarms.now books.new.unwatched.now
+        ≡ monitored (places_lent books.old) setup (B.meaning bettor) (stream_of records.entry.left) records.entry.at }
     ensures kept { KeepsBooks books.old books.new }
 {
     let at = records.spot();
@@ -53,8 +56,9 @@ fn run<B: Bettor + Drop>(
 
 // The fixed bettor of the alternative in front.
 fn fixed(null: NullTable, records: &mut Records<'_>) -> Result<Fixed, Fault>
-    ensures value { of_ok (λ b. b.alternative) result ≡ at_spot records.old.at (alternative_for null records.old.left) }
-    ensures table { IfOk result (λ b. b.null ≡ null) }
+    ensures value {
+        of_ok (λ b. (tables_of b).alternative) result ≡ at_spot records.old.at (alternative_for null records.old.left) }
+    ensures table { IfOk result (λ b. (tables_of b).null ≡ null) }
     ensures moved { OnOk result (records.new ≡ behind_record records.old) }
 {
     let at = records.spot();

@@ -27,7 +27,7 @@ fn settle_shown<B: Bettor, R: RestartRule>(
     day: u32,
     alarms: &mut Book<'_, Alarm>,
 ) -> Result<(), ReplayFault>
-    requires fits { is_fitting (terms_of B.meaning R.base monitor.old) (view B.meaning monitor.old) slip.tag slip.number ≡ true }
+    requires fits { is_fitting (view B.meaning monitor.old) slip.stake ≡ true }
     requires room { all_used (places_of alarms.old) (entries_of alarms.old) ≡ false }
     requires rises { above_in (λ a. a.day) (entries_of alarms.old) day ≡ true }
     ensures does { leads result (view B.meaning monitor.new) (entries_of alarms.new) ≡ settled_slip (terms_of B.meaning R.base monitor.old) (view B.meaning monitor.old) (entries_of alarms.old) day slip }

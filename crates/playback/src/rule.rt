@@ -15,7 +15,7 @@ pub(super) struct ChosenRule(pub(super) RuleChoice);
 impl RestartRule for ChosenRule {
     ghost base = { λ r. rule_base r.0 };
 
-    ghost modest = { Prim.search rules };
+    ghost law = { λ r. record { at_most_a_bet = Prim.search rules } };
 
     fn restart(&self, wealth: Wealth) -> Base {
         match self.0 {

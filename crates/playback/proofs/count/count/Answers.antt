@@ -18,9 +18,8 @@ watch_count-requires g c =
 pub returns-else-is_full-2-clause-does : goal.returns-else-is_full-2-clause-does
 returns-else-is_full-2-clause-does g c =
     let m = c.args.monitor.now in
-    let nulls = g.B.Bettor.nulls in
-    let play = g.B.Bettor.strategy in
+    let meaning = g.B.Bettor.meaning in
     let books = c.args.books.now in
     let told = c.watch_count.ensures in
     let room = sym c.is_full-in_default.ensures ∙ c.if-is_full-2.false in
-    armed_done (terms_of nulls g.R.RestartRule.base m) (places_lent books) (view nulls play m) c.args.records.now (entries_of books.alarms.now) (entries_of books.unwatched.now) _ c.args.day (count_next (next_fields c.args.records.now.left)) c.read.result.state c.watch_count.result (view nulls play c.watch_count.new.monitor) (entries_of c.watch_count.new.alarms) c.watch_count.new.records (ap (λ o. o.answer.state) c.read.ensures) c.in_default.not-Rung (sym c.is_above_last.ensures ∙ c.if-not-is_above_last.false) room told.does told.moved
+    armed_done (terms_of meaning g.R.RestartRule.base m) (places_lent books) (view meaning m) c.args.records.now (entries_of books.alarms.now) (entries_of books.unwatched.now) _ c.args.day (count_next (next_fields c.args.records.now.left)) c.read.result.state c.watch_count.result (view meaning c.watch_count.new.monitor) (entries_of c.watch_count.new.alarms) c.watch_count.new.records (ap (λ o. o.answer.state) c.read.ensures) c.in_default.not-Rung (sym c.is_above_last.ensures ∙ c.if-not-is_above_last.false) room told.does told.moved

@@ -24,8 +24,8 @@ returns-in-Count-clause-does g c =
 pub returns-in-Count-clause-goes : goal.returns-in-Count-clause-goes
 returns-in-Count-clause-goes g c =
     let rest = c.args.records.now in
-    let t = terms_of g.B.Bettor.nulls g.R.RestartRule.base c.args.monitor.now in
-    let w = watch_of (view g.B.Bettor.nulls g.B.Bettor.strategy c.args.monitor.now) rest c.args.books.now in
+    let t = terms_of g.B.Bettor.meaning g.R.RestartRule.base c.args.monitor.now in
+    let w = watch_of (view g.B.Bettor.meaning c.args.monitor.now) rest c.args.books.now in
     let kind = sym c.next_kind.ensures.value ∙ c.in_ok-day.was ∙ ap Ok c.in-Count.is in
     let moved = rw c.next_kind.ensures.same at c.count.ensures.moved in
     let does = rw c.next_kind.ensures.same at c.count.ensures.does in
@@ -35,15 +35,15 @@ pub returns-in-Rearm-clause-does : goal.returns-in-Rearm-clause-does
 returns-in-Rearm-clause-does g c =
     let kind = sym c.next_kind.ensures.value ∙ c.in_ok-day.was ∙ ap Ok c.in-Rearm.is in
     let moved = rw c.next_kind.ensures.same at c.rearm.ensures.moved in
-    let t = terms_of g.B.Bettor.nulls g.R.RestartRule.base c.args.monitor.now in
-    let s = view g.B.Bettor.nulls g.B.Bettor.strategy c.args.monitor.now in
+    let t = terms_of g.B.Bettor.meaning g.R.RestartRule.base c.args.monitor.now in
+    let s = view g.B.Bettor.meaning c.args.monitor.now in
     rw c.and-in-Rearm.ensures (rearm_stepped t _ c.args.records.now _ c.args.books.now s _ c.rearm.result moved kind c.rearm.ensures.does)
 
 pub returns-in-Rearm-clause-goes : goal.returns-in-Rearm-clause-goes
 returns-in-Rearm-clause-goes g c =
     let kind = sym c.next_kind.ensures.value ∙ c.in_ok-day.was ∙ ap Ok c.in-Rearm.is in
     let moved = rw c.next_kind.ensures.same at c.rearm.ensures.moved in
-    let s = view g.B.Bettor.nulls g.B.Bettor.strategy c.args.monitor.now in
+    let s = view g.B.Bettor.meaning c.args.monitor.now in
     rw c.and-in-Rearm.ensures (rearm_goes c.args.records.now _ c.args.books.now s _ c.rearm.result kind moved (record { alarms = c.requires.alarms; unwatched = c.requires.unwatched }))
 
 pub returns-in-End-clause-does : goal.returns-in-End-clause-does
@@ -51,7 +51,7 @@ returns-in-End-clause-does g c =
     let kind = sym c.next_kind.ensures.value ∙ c.in_ok-day.was ∙ ap Ok c.in-End.is in
     let moved = rw c.next_kind.ensures.same at c.end.ensures.moved in
     let value = rw c.next_kind.ensures.same at c.end.ensures.value in
-    let s = view g.B.Bettor.nulls g.B.Bettor.strategy c.args.monitor.now in
+    let s = view g.B.Bettor.meaning c.args.monitor.now in
     rw c.and-in-End.ensures (end_stepped _ _ c.args.records.now _ c.args.books.now s s c.end.result moved kind value)
 
 pub returns-in_default-clause-does : goal.returns-in_default-clause-does
