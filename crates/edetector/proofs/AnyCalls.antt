@@ -2,9 +2,7 @@
 use Rattle.std.proofs.Common.{◌≡◌, ℕ, List, [], ◌∷◌, refl, ap, sym, ◌∙◌}
 use Rattle.edetector.specs.declared.monitor.Monitor.{Monitor}
 use Rattle.edetector.specs.Bettors.{Meaning}
-use Rattle.edetector.specs.Ledger.{Terms, Standing, Outcome, outcome}
-use Rattle.edetector.specs.Calls.{Call, Stake, Settle, Withdraw, Rearm, Read, Answer, OfStake, OfSettle, OfWithdraw, OfRearm, OfRead, answer_outcome, call_outcome, calls_outcome}
-use Rattle.edetector.specs.View.{view, terms_of, Does, DoesAll, AfterCalls}
+use Rattle.edetector.specs.Monitors.{Terms, Standing, Outcome, outcome, Call, Stake, Settle, Withdraw, Rearm, Read, Answer, OfStake, OfSettle, OfWithdraw, OfRearm, OfRead, answer_outcome, call_outcome, calls_outcome, view, terms_of, Does, DoesAll, AfterCalls}
 
 module _ {B R : Type 0} (meaning : B → Meaning) (base : R → ℕ → ℕ) where
   one_call : (m n : Monitor B R) (c : Call) (a : Answer) → Does meaning base m c a n → outcome a (view meaning n) ≡ call_outcome (terms_of meaning base m) (view meaning m) c
@@ -23,7 +21,8 @@ module _ {B R : Type 0} (meaning : B → Meaning) (base : R → ℕ → ℕ) whe
       let one = one_call m between c a does in
       let rest = after_calls between n cs answers later in
       let t = terms_of meaning base m in
-      let behind : outcome answers (view meaning n) ≡ calls_outcome t (view meaning between) cs = rest.0 ∙ ap (λ x. calls_outcome x (view meaning between) cs) same in
-      (ap (λ (o : Outcome (List Answer)). outcome (a ∷ o.answer) o.after) behind
-      ∙ ap (λ (o : Outcome Answer). let r = calls_outcome t o.after cs in outcome (o.answer ∷ r.answer) r.after) one,
-      rest.1 ∙ same)
+      let behind : outcome answers (view meaning n) ≡ calls_outcome t (view meaning between) cs = rest.0 ∙ ap (λ x. calls_outcome x (view meaning between) cs) same in (
+        ap (λ (o : Outcome (List Answer)). outcome (a ∷ o.answer) o.after) behind
+            ∙ ap (λ (o : Outcome Answer). let r = calls_outcome t o.after cs in outcome (o.answer ∷ r.answer) r.after) one,
+        rest.1 ∙ same,
+      )

@@ -1,7 +1,7 @@
 -- The bound: A × weighted alarms ≤ weighted settled rounds.
 use Rattle.std.proofs.Common.{◌≡◌, ℕ, zero, suc, ◌+◌, ◌*◌, ◌≤◌, Bool, true, false, cond, leb, List, [], ◌∷◌, ◌++◌, length, replicate, sym, refl, ap, ◌∙◌, ap₂, mul_assoc, mul_comm, mul-le-mul_left, one-mul, mul-zero, mul-add, arith}
 use native.Mathlib.Nat.{le_of_mul-le-mul_left}
-use Rattle.std.specs.List.{sum}
+use Rattle.std.specs.List.{sum, count_by}
 use Rattle.std.proofs.lemmas.Bool.Decides.{nat_tests}
 use Rattle.edetector.specs.declared.state.State.{State}
 use Rattle.edetector.specs.declared.state.State.TheVariants.{Armed, Staked, Rung}
@@ -9,12 +9,11 @@ use Rattle.edetector.specs.Tables.{unit_factor, class_of}
 use Rattle.edetector.specs.Rules.{bet, IsRestartRule}
 use Rattle.edetector.specs.Bettors.{Meaning, IsBettor}
 use Rattle.edetector.specs.States.{is_staked}
-use Rattle.edetector.specs.Ledger.{Terms, Standing, terms, first_standing, after_settle, rings, ledger_after}
-use Rattle.edetector.specs.Calls.{is_round, is_alarm, alarms_in, rounds_in}
+use Rattle.edetector.specs.Monitors.{Terms, Standing, terms, first_standing, after_settle, rings, ledger_after, is_round, is_alarm}
 use Rattle.edetector.specs.Plans.{Plan, run, Bound}
 use Rattle.edetector.specs.Lemmas.Sums.{weigh, fair_by_class, weigh_mono, weigh_add, weigh_scale}
 use Rattle.edetector.proofs.Weighing.{weigh_same, weigh_within, weigh_const, fair_step}
-use Rattle.edetector.proofs.Sequences.{over_all, over_same, weighted_is, replicate_long, mass, mass_more, over_none, over_plus}
+use Rattle.edetector.proofs.Sequences.{over_all, over_same, weighted_alike, mass, mass_more, over_none, over_plus}
 use Rattle.edetector.proofs.Fairness.{FairRow, potential, potential_at, row_fair, Sound, all_kept}
 use Rattle.edetector.proofs.Runs.{only_alarms, answers_from, before_settle, run_none, run_more}
 
@@ -55,10 +54,10 @@ not_staked ws row true = tt
 not_staked ws row false = tt
 
 abbrev alarms_from : Terms → Plan → Standing → List ℕ → ℕ → ℕ
-alarms_from t p s past h = over_all (replicate h t.nulls) (λ ks. alarms_in (answers_from t p s past ks))
+alarms_from t p s past h = over_all (replicate h t.nulls) (λ ks. count_by is_alarm (answers_from t p s past ks))
 
 abbrev rounds_from : Terms → Plan → Standing → List ℕ → ℕ → ℕ
-rounds_from t p s past h = over_all (replicate h t.nulls) (λ ks. rounds_in (answers_from t p s past ks))
+rounds_from t p s past h = over_all (replicate h t.nulls) (λ ks. count_by is_round (answers_from t p s past ks))
 
 module _ (t : Terms) (p : Plan) (rule : IsRestartRule t.base) where
   -- what is to be shown of h more classes from the state s
@@ -74,10 +73,10 @@ module _ (t : Terms) (p : Plan) (rule : IsRestartRule t.base) where
   alarm_here m c = cond (rings t m c) 1 0
 
   abbrev alarms : Standing → List ℕ → List ℕ → ℕ
-  alarms s past ks = alarms_in (answers_from t p s past ks)
+  alarms s past ks = count_by is_alarm (answers_from t p s past ks)
 
   abbrev rounds : Standing → List ℕ → List ℕ → ℕ
-  rounds s past ks = rounds_in (answers_from t p s past ks)
+  rounds s past ks = count_by is_round (answers_from t p s past ks)
 
   -- the same, once the calls before the next settlement have left m, staked
   from_staked : (h : ℕ) (m : Standing) (past : List ℕ) → FairRow t.nulls m.row → ((k : ℕ) → Holds h (after_settle t m (class_of (length t.nulls) k)) (past ++ (k ∷ []))) →
@@ -133,7 +132,6 @@ pub bound : (m : Meaning) (base : ℕ → ℕ) (threshold tag : ℕ) → IsResta
 bound m base threshold tag rule bettor h p =
     let t = terms m base threshold in
     let tables = replicate h t.nulls in
-    let long = replicate_long t.nulls h in
     let s = first_standing t tag m in
     let all = holds t p rule h s [] ((λ later. fair_by_class m.nulls (m.strategy later) (bettor.factors later) (bettor.fair later)), tt) in
     let al = alarms_from t p s [] h in
@@ -141,4 +139,4 @@ bound m base threshold tag rule bettor h p =
     let turned : (t.threshold * bet) * al ≡ bet * (t.threshold * al) = ap (λ x. x * al) (mul_comm t.threshold bet) ∙ mul_assoc bet t.threshold al in
     let none = mul-zero (mass tables) in
     let scaled : bet * (t.threshold * al) ≤ bet * ro = omega (arith, all, turned, none) in
-    rw (weighted_is (length t.nulls) tables (λ ks. alarms_in (run t p s ks)) long, weighted_is (length t.nulls) tables (λ ks. rounds_in (run t p s ks)) long) (le_of_mul-le-mul_left scaled (omega arith))
+    rw (weighted_alike t.nulls h (λ ks. count_by is_alarm (run t p s ks)), weighted_alike t.nulls h (λ ks. count_by is_round (run t p s ks))) (le_of_mul-le-mul_left scaled (omega arith))

@@ -3,7 +3,7 @@ use Rattle.std.proofs.Common.{◌≡◌, ℕ, zero, suc, ◌+◌, ◌-◌, ◌/�
 use Rattle.std.proofs.lemmas.List.{length-map, length-replicate, get_or_past, get_or_append_left, get_or-append_right, get_or-replicate, ext_get_or}
 use Rattle.std.proofs.lemmas.Bool.{cases_lt}
 use Rattle.edetector.specs.declared.units.Factor.{Factor}
-use Rattle.edetector.specs.Units.{factors_in, padded}
+use Rattle.edetector.specs.Tables.{factors_in, padded}
 use Rattle.edetector.specs.Bettors.{averages}
 use Rattle.edetector.specs.Lemmas.Mixtures.{averages_long}
 use Rattle.edetector.proofs.Lists.{number_at}

@@ -12,9 +12,8 @@ use Rattle.edetector.specs.Lemmas.Sums.{weigh}
 use Rattle.edetector.specs.Rules.{bet}
 use Rattle.edetector.specs.States.{most_rounds}
 use Rattle.edetector.specs.Bettors.{Strategy}
-use Rattle.edetector.specs.Ledger.{Terms, Standing, Outcome, outcome, next_slip, is_fitting, misfit, rings, after_stake, after_settle, after_withdraw, settle_outcome}
-use Rattle.edetector.specs.View.{standing}
-use Rattle.edetector.specs.Calls.{Call, Stake, Settle, Withdraw, Rearm, Read, call_outcome, calls_outcome}
+use Rattle.edetector.specs.Monitors.{Terms, Standing, Outcome, outcome, next_slip, is_fitting, rings, after_settle, settle_outcome, Call, Stake, Settle, Withdraw, Rearm, Read, call_outcome, calls_outcome}
+use Rattle.edetector.proofs.Standings.{after_stake, after_withdraw, standing, handed_back}
 use Rattle.edetector.specs.Plans.{settles, plan_calls}
 
 abbrev pub potential_at : ℕ → State → ℕ → ℕ
@@ -49,10 +48,10 @@ either_way P true x y p q = p
 either_way P false x y p q = q
 
 -- a settle that does not fit leaves all as it is
-pub misfits : (t : Terms) (s : Standing) (slip : ShownSlip) → is_fitting s slip.stake ≡ false → settle_outcome t s slip ≡ misfit s slip
+pub misfits : (t : Terms) (s : Standing) (slip : ShownSlip) → is_fitting s slip.stake ≡ false → settle_outcome t s slip ≡ handed_back s slip
 misfits t s slip e =
     let k = class_of (length t.nulls) slip.count in
-    ap (λ b. cond b (outcome {X = Result Bool (Refused ShownSlip)} (Ok (rings t s k)) (after_settle t s k)) (misfit s slip)) e
+    ap (λ b. cond b (outcome {X = Result Bool (Refused ShownSlip)} (Ok (rings t s k)) (after_settle t s k)) (handed_back s slip)) e
 
 in_state : (t : Terms) (tag : ℕ) (st : State) (m r al : ℕ) (row : List ℕ) (strategy : Strategy) (c : Call) → let s = standing tag st m r al row strategy in settles s c ≡ false → Sound t s → Kept t s (call_outcome t s c).after
 in_state t tag Armed m r al row strategy Stake apart ok =
@@ -66,7 +65,7 @@ in_state t tag st m r al row strategy (Settle slip) apart ok =
 in_state t tag Armed m r al row strategy (Withdraw slip) apart ok = (ok, le_refl _)
 in_state t tag Staked m r al row strategy (Withdraw slip) apart ok =
     let s = standing tag Staked m r al row strategy in
-    either_way (Kept t s) (eqb slip.tag tag && eqb slip.number (r + 1)) (outcome (Ok tt) (after_withdraw s)) (outcome (Err (record { fault = Misfit; slip = slip })) s) ((ok.0, tt), le_refl m) (ok, le_refl m)
+    either_way (Kept t s) (eqb slip.tag tag && eqb slip.number (r + 1)) (outcome (Ok tt) (after_withdraw s)) (handed_back s slip) ((ok.0, tt), le_refl m) (ok, le_refl m)
 in_state t tag Rung m r al row strategy (Withdraw slip) apart ok = (ok, le_refl _)
 in_state t tag Armed m r al row strategy Rearm apart ok = ((ok.0, tt), omega arith)
 in_state t tag Staked m r al row strategy Rearm apart ok = (ok, le_refl _)

@@ -2,9 +2,8 @@
 use Rattle.std.specs.Prelude.{◌≡◌, ℕ, Bool, true, false, ◌&&◌, List, length, take, sum, refl}
 use Rattle.std.proofs.Common.{sym, ap, ◌∙◌}
 use Rattle.edetector.specs.declared.units.Weight.{Weight}
-use Rattle.edetector.specs.Units.{weights_in}
-use Rattle.edetector.specs.Places.{IsTable, places_for}
-use Rattle.edetector.specs.Lemmas.Places.{held_long, held_back}
+use Rattle.edetector.specs.Tables.{weights_in}
+use Rattle.edetector.specs.Lemmas.Places.{IsTable, places_for, held_long, held_back}
 
 -- what is held of the weights ws
 pub record IsHeld (ws : List ℕ) (classes : ℕ) (weights : List Weight) (total : ℕ) : Type 0 where

@@ -14,6 +14,7 @@ pub mod Rows
 pub mod Runs
 pub mod SameTables
 pub mod Sequences
+pub mod Standings
 pub mod TallyReads
 pub mod UnitLists
 pub mod Weighing

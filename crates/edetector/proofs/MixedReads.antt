@@ -1,9 +1,9 @@
 -- A mixture's row read at a class, and what one class learned does.
-use Rattle.std.specs.Prelude.{◌≡◌, ℕ, ◌+◌, ◌/◌, ◌<◌, ◌≤◌, Bool, true, false, cond, List, length, nat_lt, slice_index, refl}
+use Rattle.std.specs.Prelude.{◌≡◌, ℕ, ◌+◌, ◌/◌, ◌<◌, ◌≤◌, Bool, true, false, cond, List, ◌∷◌, length, nat_lt, slice_index, refl}
 use Rattle.std.proofs.Common.{sym, ap, ◌∙◌, arith, ⊎_elim}
 use Rattle.std.proofs.lemmas.Bool.{cases_lt, cond-false, cond-true, cond_both}
 use Rattle.std.proofs.lemmas.Bool.Decides.{nat_tests}
-use Rattle.edetector.specs.Bettors.{Meaning, strategy_after, meaning_after, same_table, averages, mixed_row, mixture}
+use Rattle.edetector.specs.Bettors.{Meaning, meaning_after, same_table, averages, mixed_row, mixture}
 use Rattle.edetector.specs.Lemmas.Mixtures.{same_from, averages_at, level}
 
 module _ (ws vs f g : List ℕ) (long-f : length f ≡ length ws) (long-g : length g ≡ length vs) where
@@ -15,7 +15,7 @@ module _ (ws vs f g : List ℕ) (long-f : length f ≡ length ws) (long-g : leng
 
 -- the meaning once k, which is a class, is learned
 abbrev after : Meaning → ℕ → Meaning
-after m k = record m { strategy = strategy_after m.strategy k }
+after m k = record m { strategy = λ later. m.strategy (k ∷ later) }
 
 after_class : (m : Meaning) (k : ℕ) → k < length m.nulls → meaning_after m k ≡ after m k
 after_class m k h = cond-true (nat_lt k (length m.nulls)) (after m k) m (grind (arith, nat_tests))

@@ -1,7 +1,7 @@
 -- The numbers of a likelihood ratio fit their types.
 use Rattle.std.proofs.Common.{◌≡◌, ℕ, ◌*◌, ◌<◌, ◌≤◌, sym, ap, ◌∙◌, mul_assoc, mul_comm, mul-le-mul, mul-le-mul_left, mul-pos, arith}
 use native.Mathlib.Nat.{div-le_of_le-mul}
-use Rattle.edetector.specs.Tables.{most_factor}
+use Rattle.edetector.specs.Lemmas.Limits.{most_factor}
 use Rattle.edetector.specs.Bettors.{ratio}
 
 module _ (whole v w a : ℕ) where

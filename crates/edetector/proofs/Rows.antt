@@ -5,9 +5,8 @@ use Rattle.std.proofs.lemmas.List.{get_or_past, take-append-le}
 use Rattle.std.proofs.Math.Seq.{take-length}
 use Rattle.std.proofs.lemmas.Bool.{cases_lt}
 use Rattle.edetector.specs.declared.units.Factor.{Factor}
-use Rattle.edetector.specs.Units.{factors_in, padded}
-use Rattle.edetector.specs.Tables.{IsFair, null_fault, unit_factor, most_factor}
-use Rattle.edetector.specs.Lemmas.Limits.{TableLimits, table_limits}
+use Rattle.edetector.specs.Tables.{factors_in, padded, IsFair, null_fault, unit_factor}
+use Rattle.edetector.specs.Lemmas.Limits.{most_factor, TableLimits, table_limits}
 use Rattle.edetector.specs.Lemmas.Sums.{weigh, fair_by_class}
 
 pub term_le : (ws : List ℕ) (i : ℕ) (f : ℕ → ℕ) (k : ℕ) → k < length ws → get_or ws k 0 * f (i + k) ≤ weigh ws i f

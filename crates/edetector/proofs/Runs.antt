@@ -9,11 +9,10 @@ use Rattle.edetector.specs.declared.slip.ShownSlip.{ShownSlip}
 use Rattle.edetector.specs.declared.fault.Refused.{Refused}
 use Rattle.edetector.specs.Tables.{class_of}
 use Rattle.edetector.specs.States.{is_staked}
-use Rattle.edetector.specs.Slips.{shown_slip}
-use Rattle.edetector.specs.Ledger.{Terms, Standing, Outcome, outcome, next_slip, misfit, settle_outcome, after_settle, rings}
-use Rattle.edetector.specs.Calls.{Call, Stake, Settle, Withdraw, Rearm, Read, Answer, OfStake, OfSettle, OfWithdraw, OfRearm, OfRead, is_round, is_alarm, call_outcome, calls_outcome}
-use Rattle.edetector.specs.Plans.{Plan, settles, plan_calls, next_shown, run_calls}
+use Rattle.edetector.specs.Monitors.{shown_slip, Terms, Standing, Outcome, outcome, next_slip, settle_outcome, after_settle, rings, Call, Stake, Settle, Withdraw, Rearm, Read, Answer, OfStake, OfSettle, OfWithdraw, OfRearm, OfRead, is_round, is_alarm, call_outcome, calls_outcome}
+use Rattle.edetector.specs.Plans.{Plan, settles, plan_calls, run_calls}
 use Rattle.edetector.proofs.Fairness.{misfits}
+use Rattle.edetector.proofs.Standings.{handed_back}
 
 -- calls, and more calls behind them
 pub calls-append : (t : Terms) (s : Standing) (cs ds : List Call) →
@@ -55,11 +54,11 @@ abbrev pub accepted : Terms → Standing → ℕ → Outcome (Result Bool (Refus
 accepted t m k = let c = class_of (length t.nulls) k in outcome (Ok (rings t m c)) (after_settle t m c)
 
 -- the slip that is out is accepted
-pub next_is : (t : Terms) (m : Standing) (k : ℕ) → is_staked m.state ≡ true → settle_outcome t m (next_shown m k) ≡ accepted t m k
+pub next_is : (t : Terms) (m : Standing) (k : ℕ) → is_staked m.state ≡ true → settle_outcome t m (shown_slip (next_slip m) k) ≡ accepted t m k
 next_is t m k e =
     let tags : eqb m.tag m.tag ≡ true = grind (arith, nat_tests) in
     let numbers : eqb (m.rounds + 1) (m.rounds + 1) ≡ true = grind (arith, nat_tests) in
-    ap (λ b. cond b (accepted t m k) (misfit m (next_shown m k))) (ap₂ (λ x y. x && y) e (ap₂ (λ x y. x && y) tags numbers))
+    ap (λ b. cond b (accepted t m k) (handed_back m (shown_slip (next_slip m) k))) (ap₂ (λ x y. x && y) e (ap₂ (λ x y. x && y) tags numbers))
 
 abbrev pub answers_from : Terms → Plan → Standing → List ℕ → List ℕ → List Answer
 answers_from t plan s past classes = (calls_outcome t s (run_calls t plan s past classes)).answer
@@ -83,8 +82,8 @@ module _ (q : Answer → Bool) (only : CountsRounds q) (t : Terms) (plan : Plan)
       let first = plan_calls t s (plan past) in
       let m = before_settle t plan s past in
       let o = accepted t m k in
-      let settle = Settle (next_shown m k) in
-      let rest = run_calls t plan (settle_outcome t m (next_shown m k)).after (past ++ (k ∷ [])) classes in
+      let settle = Settle (shown_slip (next_slip m) k) in
+      let rest = run_calls t plan (settle_outcome t m (shown_slip (next_slip m) k)).after (past ++ (k ∷ [])) classes in
       let none = plan_none q only t s (plan past) in
       let tail : ℕ = cond (q (OfSettle o.answer)) 1 0 + count_by q (answers_from t plan o.after (past ++ (k ∷ [])) classes) in
       cond_both (is_staked m.state) (first ++ (settle ∷ rest)) first
@@ -93,7 +92,7 @@ module _ (q : Answer → Bool) (only : CountsRounds q) (t : Terms) (plan : Plan)
       let split = ap (λ (x : Outcome (List Answer)). count_by q x.answer) (calls-append t s first (settle ∷ rest)) in
       let joined = sum_by-append (λ a. cond (q a) 1 0) (calls_outcome t s first).answer (calls_outcome t m (settle ∷ rest)).answer in
       let here : count_by q (calls_outcome t m (settle ∷ rest)).answer ≡ tail =
-      sum_by-cons (λ a. cond (q a) 1 0) (OfSettle (settle_outcome t m (next_shown m k)).answer) (calls_outcome t (settle_outcome t m (next_shown m k)).after rest).answer
+      sum_by-cons (λ a. cond (q a) 1 0) (OfSettle (settle_outcome t m (shown_slip (next_slip m) k)).answer) (calls_outcome t (settle_outcome t m (shown_slip (next_slip m) k)).after rest).answer
       ∙ ap (λ (x : Outcome (Result Bool (Refused ShownSlip))). cond (q (OfSettle x.answer)) 1 0 + count_by q (answers_from t plan x.after (past ++ (k ∷ [])) classes)) (next_is t m k out) in
       split ∙ joined ∙ ap₂ (λ x y. x + y) none here ∙ zero-add tail ∙ sym (ap (λ b. cond b tail 0) out))
       (λ none_out. none ∙ sym (ap (λ b. cond b tail 0) none_out))

@@ -1,10 +1,10 @@
 -- Sums over all sequences of classes.
 use Rattle.std.proofs.Common.{◌≡◌, ℕ, zero, suc, ◌+◌, ◌*◌, List, [], ◌∷◌, ◌++◌, map, length, replicate, get_or, sym, refl, ap, ◌∙◌, add-zero, mul_assoc, mul-zero, mul-add, arith}
 use Rattle.std.specs.List.{flat_map, range_with_len, sum, sum_by}
+use Rattle.std.proofs.lemmas.List.{length-replicate}
 use Rattle.std.proofs.lemmas.List.Sums.{sum_by-cons, sum_by-append}
-use Rattle.edetector.specs.Lemmas.Sums.{weigh}
-use Rattle.edetector.specs.Plans.{weighted, weight_of, sequences}
-use Rattle.edetector.specs.Lemmas.Sums.{weigh_add, weigh_scale}
+use Rattle.edetector.specs.Lemmas.Sums.{weigh, weigh_add, weigh_scale}
+use Rattle.edetector.specs.Plans.{weight_of, sequences}
 use Rattle.edetector.proofs.Weighing.{weigh_same, weigh_const}
 
 -- the sum over all sequences of the sequence's weight × f, table by table
@@ -70,12 +70,16 @@ abbrev pub AllLong : ℕ → List (List ℕ) → Type 0
 AllLong n [] = Unit {0}
 AllLong n (ws ∷ tables) = (length ws ≡ n) × AllLong n tables
 
-pub replicate_long : (ws : List ℕ) (h : ℕ) → AllLong (length ws) (replicate h ws)
+replicate_long : (ws : List ℕ) (h : ℕ) → AllLong (length ws) (replicate h ws)
 replicate_long ws zero = tt
 replicate_long ws (suc h) = (refl, replicate_long ws h)
 
+-- the sum of weight × f over all sequences of classes out of n, which have a table for each of their places
+abbrev weighted : ℕ → List (List ℕ) → (List ℕ → ℕ) → ℕ
+weighted n tables f = sum_by (λ classes. weight_of tables classes * f classes) (sequences n (length tables))
+
 -- the sum over the sequences, one class after the other
-pub weighted_is : (n : ℕ) (tables : List (List ℕ)) (f : List ℕ → ℕ) → AllLong n tables → weighted n tables f ≡ over_all tables f
+weighted_is : (n : ℕ) (tables : List (List ℕ)) (f : List ℕ → ℕ) → AllLong n tables → weighted n tables f ≡ over_all tables f
 weighted_is n [] f long = omega arith
 weighted_is n (ws ∷ tables) f long =
     let rest : ℕ → ℕ = λ k. weighted n tables (λ ks. f (k ∷ ks)) in
@@ -84,3 +88,9 @@ weighted_is n (ws ∷ tables) f long =
     ∙ ap (λ m. sum_by (λ k. get_or ws k 0 * rest k) (range_with_len 0 m)) (sym long.0)
     ∙ sum_classes ws ws 0 rest (λ j. ap (λ n. get_or ws n 0) (omega arith))
     ∙ weigh_same ws 0 rest (λ k. over_all tables (λ ks. f (k ∷ ks))) (λ k. weighted_is n tables (λ ks. f (k ∷ ks)) long.1)
+
+-- the same of one table in every place
+pub weighted_alike : (ws : List ℕ) (h : ℕ) (f : List ℕ → ℕ) → sum_by (λ classes. weight_of (replicate h ws) classes * f classes) (sequences (length ws) h) ≡ over_all (replicate h ws) f
+weighted_alike ws h f =
+    ap (λ n. sum_by (λ classes. weight_of (replicate h ws) classes * f classes) (sequences (length ws) n)) (sym (length-replicate h ws))
+    ∙ weighted_is (length ws) (replicate h ws) f (replicate_long ws h)

@@ -9,12 +9,12 @@ use Rattle.std.proofs.lemmas.List.{get_or-take, get_or_past, take-replicate, len
 use Rattle.std.proofs.lemmas.List.Sums.{sum_by-cons, sum_by-append, count_by-le-length}
 use Rattle.edetector.specs.declared.adaptive.Adaptive.{Adaptive}
 use Rattle.edetector.specs.Tables.{most_classes}
-use Rattle.edetector.specs.Bettors.{Meaning, Strategy, meaning_after, strategy_after, ratio, ratios, most_tallied, times, tally_with, tallied_weights, adaptive_row, adaptive_meaning}
-use Rattle.edetector.specs.Tallies.{classes_counted, tally_of, tally_after, SameCounts}
+use Rattle.edetector.specs.Bettors.{Meaning, Strategy, meaning_after, ratio, ratios, most_tallied, times, tally_with, tallied_weights, adaptive_row, adaptive_meaning}
+use Rattle.edetector.specs.BettorParts.{classes_counted, tally_of, tally_after}
 use Rattle.edetector.specs.Lemmas.Limits.{TableLimits, table_limits}
 use Rattle.edetector.specs.Lemmas.Sums.{sum_cons}
 use Rattle.edetector.specs.Lemmas.Ratios.{ratios_long}
-use Rattle.edetector.specs.Lemmas.Tallies.{tallied_from, tallied_long}
+use Rattle.edetector.specs.Lemmas.Tallies.{tallied_from, tallied_long, SameCounts}
 use Rattle.edetector.proofs.Lists.{index_le_sum}
 use Rattle.edetector.proofs.RatiosAt.{ratios_at, tallied_at}
 
@@ -120,7 +120,7 @@ strategy_same ws t u h same =
 pub adaptive_learns : (ws t u : List ℕ) (k : ℕ) → length u ≤ most_tallied → SameCounts u (tally_after (length ws) t k) → adaptive_meaning ws u ≡ meaning_after (adaptive_meaning ws t) k
 adaptive_learns ws t u k h same =
     let m = adaptive_meaning ws t in
-    let learned : Meaning = record m { strategy = strategy_after m.strategy k } in
+    let learned : Meaning = record m { strategy = λ later. m.strategy (k ∷ later) } in
     cond_both (nat_lt k (length ws)) learned m
     (λ x. SameCounts u (cond (nat_lt k (length ws)) (tally_with t (k ∷ [])) t) → adaptive_meaning ws u ≡ x)
     (λ below s.

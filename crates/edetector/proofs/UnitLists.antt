@@ -5,8 +5,7 @@ use Rattle.std.proofs.lemmas.List.{length-map, take-map}
 use Rattle.std.proofs.lemmas.List.Elements.{All-from_get_or}
 use Rattle.std.proofs.lemmas.List.Sums.{sum_by-le, sum_by-cons}
 use Rattle.edetector.specs.declared.units.Weight.{Weight}
-use Rattle.edetector.specs.Units.{weights_in}
-use Rattle.edetector.specs.Tables.{fewest_classes, most_classes, most_weight, most_total, weights_within, table_fault}
+use Rattle.edetector.specs.Tables.{weights_in, fewest_classes, most_classes, most_weight, most_total, weights_within, table_fault}
 use Rattle.edetector.specs.Lemmas.Limits.{each_within}
 use Rattle.edetector.specs.Lemmas.Sums.{sum_cons}
 use Rattle.edetector.proofs.Limits.{unbroken}

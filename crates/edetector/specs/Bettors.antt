@@ -1,10 +1,9 @@
--- What a bettor means: a null table, and a row of factors for every list of classes that may yet be learned.
--- Every division drops its remainder.
+-- What a bettor means: a null table, and what it plays after whatever it learns. Every division drops its remainder.
 use Rattle.std.specs.Prelude.{◌≡◌, ℕ, ◌+◌, ◌*◌, ◌/◌, Bool, if◌then◌else◌, ◌&&◌, List, [], ◌∷◌, ◌++◌, map, length, take, sum, count_by, None, ◌==◌, nat_lt}
 use Rattle.std.specs.List.{zip, range_with_len, common_prefix_len}
 use Rattle.edetector.specs.Tables.{null_fault, unit_factor, IsFair}
 
--- the row for the empty list is the row now
+-- the row of factors that is played once just these classes were learned
 abbrev pub Strategy : Type 0
 Strategy = List ℕ → List ℕ
 
@@ -12,20 +11,15 @@ pub record Meaning : Type 0 where
   pub nulls : List ℕ
   pub strategy : Strategy
 
--- what every bettor keeps of its meaning: the limits of its null table, and at every list a factor for each class, in a
--- row that is fair
+-- what every bettor keeps: a null table within its limits and, whatever is learned, a fair row of a factor for each class
 pub record IsBettor (m : Meaning) : Type 0 where
   pub table : null_fault m.nulls ≡ None
   pub factors : (later : List ℕ) → length (m.strategy later) ≡ length m.nulls
   pub fair : (later : List ℕ) → IsFair m.nulls (m.strategy later)
 
--- the strategy once class k is learned
-abbrev pub strategy_after : Strategy → ℕ → Strategy
-strategy_after strategy k = λ later. strategy (k ∷ later)
-
 -- the meaning once k is learned; a number that is no class changes nothing
 abbrev pub meaning_after : Meaning → ℕ → Meaning
-meaning_after m k = if nat_lt k (length m.nulls) then record m { strategy = strategy_after m.strategy k } else m
+meaning_after m k = if nat_lt k (length m.nulls) then record m { strategy = λ later. m.strategy (k ∷ later) } else m
 
 -- the likelihood ratio (a / v) : (w / n) of a class with alternative weight a out of v and null weight w out of n
 abbrev pub ratio : ℕ → ℕ → ℕ → ℕ → ℕ

@@ -3,18 +3,14 @@ use Rattle.std.specs.Prelude.{◌≡◌, ℕ, Bool, true, false, List, [], ◌�
 use Rattle.edetector.specs.Tables.{IsFair}
 use Rattle.edetector.specs.Rules.{shiryaev_roberts, page}
 use Rattle.edetector.specs.Bettors.{Meaning, fixed_meaning, adaptive_meaning, mixture}
-use Rattle.edetector.specs.Ledger.{Terms, Standing, terms, first_standing, stake_outcome}
-use Rattle.edetector.specs.Calls.{Stake, Rearm, is_round, is_alarm}
-use Rattle.edetector.specs.Plans.{Plan, next_outcome, run, weighted_alarms, weighted_rounds}
-
-abbrev pub nulls_3_1 : List ℕ
-nulls_3_1 = 3 ∷ 1 ∷ []
+use Rattle.edetector.specs.Monitors.{Terms, Standing, terms, first_standing, stake_outcome, Stake, Rearm, is_round, is_alarm, next_outcome}
+use Rattle.edetector.specs.Plans.{Plan, run, weighted_count}
 
 abbrev pub even : Meaning
-even = fixed_meaning nulls_3_1 (1 ∷ 1 ∷ [])
+even = fixed_meaning (3 ∷ 1 ∷ []) (1 ∷ 1 ∷ [])
 
-abbrev pub nothing_tallied : Meaning
-nothing_tallied = adaptive_meaning nulls_3_1 []
+abbrev pub begun : Terms → Standing
+begun t = first_standing t 1 even
 
 -- the ledger after each of a list of classes, each staked and settled
 abbrev pub ledgers : Terms → Standing → List ℕ → List ℕ
@@ -29,22 +25,16 @@ rearm_and_stake past = Stake ∷ Rearm ∷ Stake ∷ []
 
 -- whether each settled round of a run rang
 abbrev pub rounds_rang : Terms → List ℕ → List Bool
-rounds_rang t classes = map is_alarm (filter is_round (run t rearm_and_stake (first_standing t 1 even) classes))
-
-abbrev pub rule_s : ℕ → Terms
-rule_s threshold = terms even shiryaev_roberts threshold
-
-abbrev pub rule_p : ℕ → Terms
-rule_p threshold = terms even page threshold
+rounds_rang t classes = map is_alarm (filter is_round (run t rearm_and_stake (begun t) classes))
 
 pub record WorkedExamples : Type 0 where
   pub fixed_row : even.strategy [] ≡ 2730 ∷ 8192 ∷ []
-  pub nearest_is_unfair : IsFair nulls_3_1 (2731 ∷ 8192 ∷ []) → ⊥
-  pub adaptive_row : nothing_tallied.strategy (1 ∷ []) ≡ 3276 ∷ 6553 ∷ []
-  pub mixture_row : (mixture even nothing_tallied).strategy [] ≡ 3413 ∷ 6144 ∷ []
-  pub sum_ledgers : ledgers (rule_s 4) (first_standing (rule_s 4) 1 even) (0 ∷ 1 ∷ 1 ∷ []) ≡ 698880 ∷ 3494912 ∷ 9086976 ∷ []
-  pub sum_alarms : rounds_rang (rule_s 4) (0 ∷ 1 ∷ 1 ∷ []) ≡ false ∷ false ∷ true ∷ []
-  pub page_ledgers : ledgers (rule_p 4) (first_standing (rule_p 4) 1 even) (1 ∷ 1 ∷ []) ≡ 2097152 ∷ 4194304 ∷ []
-  pub page_alarms : rounds_rang (rule_p 4) (1 ∷ 1 ∷ []) ≡ false ∷ true ∷ []
-  pub alarms_of_two_rounds : weighted_alarms (rule_s 2) (first_standing (rule_s 2) 1 even) rearm_and_stake 2 ≡ 8
-  pub rounds_of_two_rounds : weighted_rounds (rule_s 2) (first_standing (rule_s 2) 1 even) rearm_and_stake 2 ≡ 32
+  pub nearest_is_unfair : IsFair even.nulls (2731 ∷ 8192 ∷ []) → ⊥
+  pub adaptive_row : (adaptive_meaning even.nulls []).strategy (1 ∷ []) ≡ 3276 ∷ 6553 ∷ []
+  pub mixture_row : (mixture even (adaptive_meaning even.nulls [])).strategy [] ≡ 3413 ∷ 6144 ∷ []
+  pub sum_ledgers : ledgers (terms even shiryaev_roberts 4) (begun (terms even shiryaev_roberts 4)) (0 ∷ 1 ∷ 1 ∷ []) ≡ 698880 ∷ 3494912 ∷ 9086976 ∷ []
+  pub sum_alarms : rounds_rang (terms even shiryaev_roberts 4) (0 ∷ 1 ∷ 1 ∷ []) ≡ false ∷ false ∷ true ∷ []
+  pub page_ledgers : ledgers (terms even page 4) (begun (terms even page 4)) (1 ∷ 1 ∷ []) ≡ 2097152 ∷ 4194304 ∷ []
+  pub page_alarms : rounds_rang (terms even page 4) (1 ∷ 1 ∷ []) ≡ false ∷ true ∷ []
+  pub alarms_of_two_rounds : weighted_count is_alarm (terms even shiryaev_roberts 2) (begun (terms even shiryaev_roberts 2)) rearm_and_stake 2 ≡ 8
+  pub rounds_of_two_rounds : weighted_count is_round (terms even shiryaev_roberts 2) (begun (terms even shiryaev_roberts 2)) rearm_and_stake 2 ≡ 32

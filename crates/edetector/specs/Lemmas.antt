@@ -1,4 +1,6 @@
--- What the laws of traits and types are proved by. Nobody has to believe any of it: the checker has proved each lemma.
+-- What the laws of traits are proved by, and what private fields keep. A reader has to believe none of it: the checker has
+-- proved every lemma, and no public contract names a definition of these files.
+pub mod Invariants
 pub mod Limits
 pub mod Mixtures
 pub mod Places

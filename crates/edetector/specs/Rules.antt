@@ -13,13 +13,9 @@ pub record IsRestartRule (base : ℕ → ℕ) : Type 0 where
 abbrev pub most_parts : ℕ
 most_parts = 2 ^ 49
 
--- above so many parts no bet is begun
-abbrev pub begin_limit : ℕ
-begin_limit = 2 ^ 32
-
--- the base of a wealth m, with what is begun up to the limit
+-- the base of a wealth m: what is begun with it, but above 2^32 parts no bet is begun
 abbrev pub base_for : ℕ → ℕ → ℕ
-base_for m begun = if nat_lt begin_limit m then m else begun
+base_for m begun = if nat_lt (2 ^ 32) m then m else begun
 
 -- the Shiryaev–Roberts rule adds a bet
 abbrev pub shiryaev_roberts : ℕ → ℕ

@@ -1,28 +1,29 @@
--- What holds of a monitor in each state.
-use Rattle.std.specs.Prelude.{ℕ, Bool, true, false, if◌then◌else◌, nat_le, nat_lt}
+-- What a monitor is doing, and the row that it keeps meanwhile.
+use Rattle.std.specs.Prelude.{ℕ, Bool, true, false, List, [], length, take}
 use Rattle.edetector.specs.declared.state.State.{State}
-use Rattle.edetector.specs.declared.state.State.TheVariants.{Armed, Staked, Rung}
+use Rattle.edetector.specs.declared.state.State.TheVariants as state
+use Rattle.edetector.specs.declared.monitor.phase.Phase.{Phase}
+use Rattle.edetector.specs.declared.monitor.phase.Phase.TheVariants.{Armed, Staked, Rung}
+use Rattle.edetector.specs.Tables.{factors_in}
 
 abbrev pub is_armed : State → Bool
-is_armed Armed = true
-is_armed Staked = false
-is_armed Rung = false
+is_armed state.Armed = true
+is_armed _ = false
 
 abbrev pub is_staked : State → Bool
-is_staked Armed = false
-is_staked Staked = true
-is_staked Rung = false
-
--- the ledger is at the limit or above exactly if the monitor is rung
-abbrev pub agrees_with_ledger : State → ℕ → ℕ → Bool
-agrees_with_ledger Armed limit ledger = nat_lt ledger limit
-agrees_with_ledger Staked limit ledger = nat_lt ledger limit
-agrees_with_ledger Rung limit ledger = nat_le limit ledger
+is_staked state.Staked = true
+is_staked _ = false
 
 -- after so many settled rounds a stake is refused
 abbrev pub most_rounds : ℕ
 most_rounds = 1000000
 
--- no more rounds are settled, and a staked monitor has one left
-abbrev pub has_rounds_left : State → ℕ → Bool
-has_rounds_left state rounds = if is_staked state then nat_lt rounds most_rounds else nat_le rounds most_rounds
+abbrev pub state_of : Phase → State
+state_of Armed = state.Armed
+state_of (Staked stake) = state.Staked
+state_of Rung = state.Rung
+
+-- the staked row of a table with so many classes; there is none unless the monitor is staked
+abbrev pub row_in : Phase → ℕ → List ℕ
+row_in (Staked stake) classes = take classes (factors_in stake.row)
+row_in _ classes = []

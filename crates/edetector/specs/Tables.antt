@@ -1,17 +1,28 @@
 -- Tables of class weights, and rows of factors that are fair against one.
-use Rattle.std.specs.Prelude.{ℕ, ◌-◌, ◌*◌, ◌≤◌, min, Bool, not, if◌then◌else◌, ◌&&◌, List, length, sum, sum_by, Some, None, Option, Ok, Err, Result, nat_le}
+use Rattle.std.specs.Prelude.{ℕ, ◌-◌, ◌*◌, ◌≤◌, min, Bool, not, if◌then◌else◌, ◌&&◌, List, ◌++◌, map, length, replicate, sum, sum_by, Some, None, Option, Ok, Err, Result, nat_le}
 use Rattle.std.specs.List.{list_all, zip}
+use Rattle.edetector.specs.declared.units.Weight.{Weight}
+use Rattle.edetector.specs.declared.units.Factor.{Factor}
 use Rattle.edetector.specs.declared.value.ValueFault.{ValueFault}
-use Rattle.edetector.specs.declared.value.ValueFault.TheVariants.{Classes, Weight, Total}
+use Rattle.edetector.specs.declared.value.ValueFault.TheVariants.{Classes, Weight as AWeight, Total, Threshold, NullTables, Alternative}
 
--- how many classes a table has
+-- the number of each refusal of a value
+abbrev pub value_number : ValueFault → ℕ
+value_number Classes = 1
+value_number AWeight = 2
+value_number Total = 3
+value_number Threshold = 4
+value_number NullTables = 6
+value_number Alternative = 8
+
+-- how many classes a table has at the least, and at the most
 abbrev pub fewest_classes : ℕ
 fewest_classes = 2
 
 abbrev pub most_classes : ℕ
 most_classes = 16
 
--- the heaviest weight, and the heaviest total
+-- the largest weight, and the largest total
 abbrev pub most_weight : ℕ
 most_weight = 65536
 
@@ -22,7 +33,7 @@ most_total = 65536
 abbrev pub from_to : ℕ → ℕ → ℕ → Bool
 from_to low high n = nat_le low n && nat_le n high
 
--- every weight lies from low to the heaviest
+-- every weight lies from low to the largest
 abbrev pub weights_within : ℕ → List ℕ → Bool
 weights_within low ws = list_all (from_to low most_weight) ws
 
@@ -31,7 +42,7 @@ weights_within low ws = list_all (from_to low most_weight) ws
 abbrev pub table_fault : ℕ → List ℕ → Option ValueFault
 table_fault low ws =
     if not (from_to fewest_classes most_classes (length ws)) then Some Classes
-    else if not (weights_within low ws) then Some Weight
+    else if not (weights_within low ws) then Some AWeight
     else if not (from_to 1 most_total (sum ws)) then Some Total
     else None
 
@@ -59,6 +70,13 @@ unit_factor = 4096
 abbrev pub IsFair : List ℕ → List ℕ → Type 0
 IsFair ws row = sum_by (λ p. p.0 * p.1) (zip ws row) ≤ unit_factor * sum ws
 
--- no factor of a fair row is larger, since each weight is at least 1
-abbrev pub most_factor : ℕ
-most_factor = unit_factor * most_total
+-- weights and factors read as numbers
+abbrev pub weights_in : List Weight → List ℕ
+weights_in ws = map (λ w. w.0) ws
+
+abbrev pub factors_in : List Factor → List ℕ
+factors_in es = map (λ e. e.0) es
+
+-- a row in as many places as a table can have classes: the factors es, and zeros behind them
+abbrev pub padded : List ℕ → List ℕ
+padded es = es ++ replicate (most_classes - length es) 0

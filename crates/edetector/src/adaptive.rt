@@ -3,16 +3,16 @@ ghost use Rattle.std.specs.Prelude.{◌≡◌, ◌≤◌, length, take, sum, Non
 ghost use Rattle.edetector.specs.Tables.{null_fault, most_classes};
 ghost use Rattle.edetector.specs.Bettors.{most_tallied};
 
-use super::table::NullTable;
+use super::table::{MOST_CLASSES, NullTable};
 
 pub mod plays;
 
-// How often each class was learned: a fixed array beside the table, since nothing here takes memory and the table stays as
-// it was made.
+/// It learns up to a million classes, and nothing more after them.
+// How often each class was learned, and how many classes in all.
 #[derive(Drop)]
 pub struct Adaptive {
     pub(super) null: NullTable,
-    pub(super) counts: [u32; 16],
+    pub(super) counts: [u32; MOST_CLASSES],
     pub(super) tallied: u32,
     ghost null_unbroken: { null_fault null ≡ None },
     ghost room: { length counts ≡ most_classes },

@@ -1,14 +1,16 @@
-// A bettor: a null table, and a strategy that names a row of factors for every list of classes learned from now on.
+// A bettor: a null table, and the rows of factors that it plays, whatever it learns.
 ghost use Rattle.std.specs.Prelude.{◌≡◌, ◌≤◌, [], length, slice_index};
-ghost use Rattle.edetector.specs.Units.{factors_in, padded};
+ghost use Rattle.edetector.specs.Tables.{factors_in, padded};
 ghost use Rattle.edetector.specs.Bettors.{Meaning, IsBettor, meaning_after};
 
 use super::units::{Factor, Row, Weight};
 use std::array;
 
+/// An own bettor shows its meaning and the law of its meaning, and the bound holds for it.
 pub trait Bettor {
     ghost meaning: { Self → Meaning };
 
+    /// How many classes the null table has.
     fn classes(&self) -> usize
         ensures { result ≡ length (meaning self.now).nulls };
 

@@ -1,16 +1,17 @@
 // Why a monitor refuses a call, and what it hands back.
 ghost use Rattle.std.specs.Prelude.{◌≡◌};
-ghost use Rattle.edetector.specs.Faults.{monitor_number};
+ghost use Rattle.edetector.specs.Monitors.{monitor_number};
 
 use super::value::ValueFault;
 
+/// Each by its number.
 #[derive(Clone, Copy, Debug, PartialEq, Eq)]
 pub enum MonitorFault {
-    // a stake after 1,000,000 rounds
+    /// a stake after 1,000,000 rounds
     Spent = 31,
-    // a stake while staked or rung, or a rearm while staked
+    /// a stake while staked or rung, or a rearm while staked
     NotArmed = 32,
-    // the slip does not fit
+    /// a slip that is not of the round staked on, or no round is
     Misfit = 34,
 }
 
@@ -22,13 +23,13 @@ impl From<MonitorFault> for u8 {
     }
 }
 
-// A refused slip, handed back. As one type with the log's `Unshown` each mention of either would have to name the fault.
+/// A refused slip, handed back.
 pub struct Refused<S> {
     pub fault: MonitorFault,
     pub slip: S,
 }
 
-// A monitor that was not made, with what was handed over.
+/// Why a monitor was not made, with what was handed over.
 #[derive(Drop)]
 pub struct Unmade<B, R> {
     pub fault: ValueFault,

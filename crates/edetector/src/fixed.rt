@@ -1,15 +1,14 @@
 // The fixed bettor: it plays the likelihood ratios of one alternative, whatever it learns.
 ghost use Rattle.std.specs.Prelude.{◌≡◌, [], length, None};
-ghost use Rattle.edetector.specs.Units.{factors_in, padded};
+ghost use Rattle.edetector.specs.Tables.{factors_in, padded, null_fault, alternative_fault};
 ghost use Rattle.edetector.specs.Bettors.{fixed_meaning};
-ghost use Rattle.edetector.specs.Tables.{null_fault, alternative_fault};
 
 use super::table::{AlternativeTable, NullTable};
 use super::units::Row;
 
 pub mod plays;
 
-// The row is reckoned once, when the bettor is made.
+/// Its row is reckoned once, when it is made.
 #[derive(Drop)]
 pub struct Fixed {
     pub(super) null: NullTable,

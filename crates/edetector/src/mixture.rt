@@ -1,7 +1,7 @@
 // A mixture of any two bettors, which bets half on each.
 ghost use Rattle.std.specs.Prelude.{◌≡◌, ◌+◌, ◌/◌, ◌<◌, ◌≤◌, if◌then◌else◌, length, Ok, Err};
 ghost use Rattle.edetector.specs.declared.value.ValueFault.TheVariants.{NullTables};
-ghost use Rattle.edetector.specs.Units.{factors_in};
+ghost use Rattle.edetector.specs.Tables.{factors_in};
 ghost use Rattle.edetector.specs.Bettors.{meaning_after, averages, mixture, same_table};
 ghost use Rattle.edetector.specs.Lemmas.Mixtures.{mixture_law};
 
@@ -70,8 +70,7 @@ impl<F: Bettor, S: Bettor> Mixture<F, S> {
 
     /// Refused where the two null tables differ.
     pub fn check(&self) -> Result<(), ValueFault>
-        ensures {
-            result ≡ (if same_table (F.meaning self.now.first).nulls (S.meaning self.now.second).nulls
+        ensures { result ≡ (if same_table (F.meaning self.now.first).nulls (S.meaning self.now.second).nulls
             then Ok tt else Err NullTables) }
     {
         if self.same {
@@ -105,11 +104,9 @@ impl<F: Bettor, S: Bettor> Bettor for Mixture<F, S> {
 
     // Both learn every class of the mixture's own table, also where the two tables differ.
     fn learn(&mut self, class: usize)
-        ensures first {
-            class < length (F.meaning self.old.first).nulls →
+        ensures first { class < length (F.meaning self.old.first).nulls →
             F.meaning self.new.first ≡ meaning_after (F.meaning self.old.first) class }
-        ensures second {
-            class < length (F.meaning self.old.first).nulls →
+        ensures second { class < length (F.meaning self.old.first).nulls →
             S.meaning self.new.second ≡ meaning_after (S.meaning self.old.second) class }
         ensures same { length (F.meaning self.old.first).nulls ≤ class → self.new ≡ self.old }
     {

@@ -1,8 +1,8 @@
 // What a monitor holds.
 ghost use Rattle.std.specs.Prelude.{◌≡◌, ◌*◌, ◌≤◌, true};
 ghost use Rattle.edetector.specs.Rules.{bet};
-ghost use Rattle.edetector.specs.States.{agrees_with_ledger, has_rounds_left};
-ghost use Rattle.edetector.specs.Phases.{state_of};
+ghost use Rattle.edetector.specs.Lemmas.Invariants.{agrees_with_ledger, has_rounds_left};
+ghost use Rattle.edetector.specs.States.{state_of};
 
 use super::state::State;
 use super::wealth::Wealth;
@@ -11,6 +11,7 @@ use phase::Phase;
 pub mod calls;
 mod phase;
 
+/// A bettor, a restart rule, a threshold from 1 to 4,096 bets, and a tag by which it knows its slips.
 #[derive(Drop)]
 pub struct Monitor<B, R> {
     bettor: B,
@@ -28,7 +29,7 @@ pub struct Monitor<B, R> {
     ghost rounds_left: { has_rounds_left (state_of phase) rounds ≡ true },
 }
 
-// What a monitor tells of itself.
+/// What a monitor tells of itself.
 #[derive(Clone, Copy, Debug, PartialEq, Eq)]
 pub struct Reading {
     pub state: State,

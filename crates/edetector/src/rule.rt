@@ -8,6 +8,7 @@ use super::wealth::Wealth;
 pub trait RestartRule {
     ghost base: { Self → ℕ → ℕ };
 
+    /// The base of a round at a wealth; it changes nothing.
     fn restart(&self, wealth: Wealth) -> Base
         ensures { result.0 ≡ base self.now wealth };
 

@@ -20,7 +20,7 @@ fn base_for(wealth: Wealth, begun: u64) -> Base
     }
 }
 
-// Begins a bet each round, beside those that go on.
+/// Begins a bet each round, beside those that go on.
 #[derive(Clone, Copy, Debug, PartialEq, Eq)]
 pub struct ShiryaevRoberts;
 
@@ -34,7 +34,7 @@ impl RestartRule for ShiryaevRoberts {
     }
 }
 
-// Begins a bet anew where what is left is less than a bet.
+/// Begins a bet anew where what is left is less than a bet.
 #[derive(Clone, Copy, Debug, PartialEq, Eq)]
 pub struct Page;
 

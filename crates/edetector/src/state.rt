@@ -1,10 +1,11 @@
-// What a monitor is doing, as it tells it: its own phase has the staked row besides, which a reading neither copies nor tells.
+// What a monitor is doing, as it tells it.
+
 #[derive(Clone, Copy, Debug, PartialEq, Eq)]
 pub enum State {
-    // ready for a stake
+    /// ready for a stake
     Armed,
-    // a slip is out
+    /// a slip is out
     Staked,
-    // the alarm has rung, and waits to be rearmed
+    /// the alarm has rung, and waits to be rearmed
     Rung,
 }

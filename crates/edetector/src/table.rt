@@ -28,9 +28,8 @@ pub struct Table<const LEAST: u32> {
 
 impl<const LEAST: u32> Model for Table<LEAST> {
     ghost use Rattle.std.specs.Prelude.{ℕ, List, length, sum, take};
-    ghost use Rattle.edetector.specs.Units.{weights_in};
-    ghost use Rattle.edetector.specs.Places.{IsTable, places_for};
-    ghost use Rattle.edetector.specs.Lemmas.Places.{held_long, held_back};
+    ghost use Rattle.edetector.specs.Tables.{weights_in};
+    ghost use Rattle.edetector.specs.Lemmas.Places.{IsTable, places_for, held_long, held_back};
 
     ghost Value = { List ℕ };
 

@@ -1,21 +1,21 @@
 // Why a value handed over is refused.
 ghost use Rattle.std.specs.Prelude.{◌≡◌};
-ghost use Rattle.edetector.specs.Faults.{value_number};
+ghost use Rattle.edetector.specs.Tables.{value_number};
 
-// Each by its number.
+/// Each by its number.
 #[derive(Clone, Copy, Debug, PartialEq, Eq)]
 pub enum ValueFault {
-    // the number of classes is not 2 to 16
+    /// the number of classes is not 2 to 16
     Classes = 1,
-    // a weight is beyond its limits
+    /// a weight is beyond its limits
     Weight = 2,
-    // the total of the weights is beyond its limits
+    /// the total of the weights is beyond its limits
     Total = 3,
-    // the threshold is not 1 to 4,096
+    /// the threshold is not 1 to 4,096
     Threshold = 4,
-    // the null tables of a mixture differ
+    /// the null tables of a mixture differ
     NullTables = 6,
-    // the alternative has not as many classes as the null table
+    /// the alternative has not as many classes as the null table
     Alternative = 8,
 }
 

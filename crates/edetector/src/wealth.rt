@@ -4,13 +4,13 @@ ghost use Rattle.edetector.specs.Rules.{most_parts};
 
 use std::marker::Model;
 
-// One bet, in parts.
+/// One bet, in parts.
 pub const BET: u64 = 1048576;
 
 // The most parts.
 const MOST_PARTS: u64 = 562949953421312;
 
-// A contract sees the number of its parts.
+/// From 0 to 2^49 parts of a bet; a contract sees their number.
 #[derive(Clone, Copy, Debug, PartialEq, Eq)]
 pub struct Wealth {
     pub(super) parts: u64,
@@ -27,7 +27,7 @@ impl Model for Wealth {
 }
 
 impl Wealth {
-    // The wealth of so many parts, if there can be one.
+    /// The wealth of so many parts, unless these are more than 2^49.
     pub fn new(parts: u64) -> Option<Wealth>
         ensures { result ≡ (if nat_le parts most_parts then Some parts else None) }
     {

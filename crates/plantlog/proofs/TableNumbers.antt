@@ -2,7 +2,7 @@
 use Rattle.std.proofs.Common.{◌≡◌, ℕ, ◌+◌, ◌<◌, List, [], ◌∷◌, ◌++◌, length, get_or, take, set, sym, refl, ap, ◌∙◌, arith, length-set}
 use Rattle.std.proofs.lemmas.List.{take_more, take_more_set, length-map, get_or-map}
 use Rattle.edetector.specs.declared.units.Weight.{Weight}
-use Rattle.edetector.specs.Units.{weights_in}
+use Rattle.edetector.specs.Tables.{weights_in}
 
 -- the number of weights and the first k of them are in the list
 pub record Listed (ws : List Weight) (k : ℕ) (list : List ℕ) : Type 0 where

@@ -3,8 +3,7 @@ use Rattle.std.proofs.Common.{◌≡◌, ℕ, suc, ◌+◌, ◌-◌, ◌<◌, Li
 use Rattle.std.proofs.lemmas.List.{length-map, map-set, take_more_set}
 use Rattle.edetector.specs.declared.units.Weight.{Weight}
 use Rattle.edetector.specs.declared.value.ValueFault.TheVariants.{Weight as WeightFault}
-use Rattle.edetector.specs.Tables.{most_weight}
-use Rattle.edetector.specs.Units.{weights_in}
+use Rattle.edetector.specs.Tables.{most_weight, weights_in}
 use Rattle.plantlog.specs.declared.fault.RecordFault.{RecordFault}
 use Rattle.plantlog.specs.declared.fault.RecordFault.TheVariants.{Value}
 use Rattle.plantlog.specs.Results.{of_ok, and_then}

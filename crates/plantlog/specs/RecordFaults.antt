@@ -1,6 +1,6 @@
 -- The number and the layer of each refusal of a record.
 use Rattle.std.specs.Prelude.{ℕ}
-use Rattle.edetector.specs.Faults.{value_number}
+use Rattle.edetector.specs.Tables.{value_number}
 use Rattle.plantlog.specs.declared.fault.RecordFault.{RecordFault}
 use Rattle.plantlog.specs.declared.fault.RecordFault.TheVariants.{Value, Number, ReceiveBuffer, NoneLeft, LengthByte, Truncated, UnknownKind, UnknownChoice, LeftOver, WrongCall, WriteBuffer}
 use Rattle.plantlog.specs.declared.fault.Layer.{Layer}

@@ -1,6 +1,6 @@
 // The fields of a record, taken one after the other.
 ghost use Rattle.std.specs.Prelude.{◌≡◌, ◌-◌, ◌≤◌, [], length, IfOk};
-ghost use Rattle.edetector.specs.Units.{weights_in};
+ghost use Rattle.edetector.specs.Tables.{weights_in};
 ghost use Rattle.plantlog.specs.Results.{of_ok};
 ghost use Rattle.plantlog.specs.FirstRecord.{any_field, field, no_more, weights as weights_read};
 

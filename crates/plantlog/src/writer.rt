@@ -2,7 +2,7 @@
 // stay, and a refusal writes nothing.
 // One call over an enum of what to write would hold a lent slice in one variant, and its callers could not be proved.
 ghost use Rattle.std.specs.Prelude.{◌≡◌, ◌+◌, ◌-◌, []};
-ghost use Rattle.edetector.specs.Units.{weights_in};
+ghost use Rattle.edetector.specs.Tables.{weights_in};
 ghost use Rattle.plantlog.specs.Format.{Fields, Table as InTable, Setup as InSetup, Alternative as InAlternative, Count as InCount, Rearm as InRearm, End as InEnd};
 ghost use Rattle.plantlog.specs.Written.{fields_judged, SaysTable, Wrote};
 

@@ -6,7 +6,7 @@ use Rattle.std.proofs.lemmas.Bool.Decides.{nat_tests}
 use Rattle.edetector.specs.declared.value.ValueFault.TheVariants.{Alternative as UnlikeClasses, Threshold}
 use Rattle.edetector.specs.Tables.{from_to}
 use Rattle.edetector.specs.Bettors.{Meaning}
-use Rattle.edetector.specs.Ledger.{Terms}
+use Rattle.edetector.specs.Monitors.{Terms}
 use Rattle.plantlog.specs.Bytes.{Bytes}
 use Rattle.plantlog.specs.Calls.{span}
 use Rattle.plantlog.specs.Results.{of_ok, and_then}

@@ -8,8 +8,8 @@ use Rattle.edetector.specs.declared.fault.MonitorFault.{MonitorFault}
 use Rattle.edetector.specs.declared.fault.MonitorFault.TheVariants.{Spent}
 use Rattle.edetector.specs.Tables.{class_of}
 use Rattle.edetector.specs.Bettors.{Strategy}
-use Rattle.edetector.specs.Ledger.{Terms, Standing, outcome, rings, after_stake, after_settle}
-use Rattle.edetector.specs.View.{standing}
+use Rattle.edetector.specs.Monitors.{Terms, Standing, outcome, rings, after_settle}
+use Rattle.edetector.proofs.Standings.{after_stake, standing}
 use Rattle.playback.specs.declared.stop.ReplayFault.{ReplayFault}
 use Rattle.daybook.specs.declared.entry.unwatched.Unwatched.{Unwatched}
 use Rattle.daybook.specs.Books.{all_used, above}

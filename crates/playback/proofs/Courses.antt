@@ -10,9 +10,9 @@ use Rattle.edetector.specs.declared.fault.MonitorFault.TheVariants.{NotArmed, Sp
 use Rattle.edetector.specs.Rules.{bet}
 use Rattle.edetector.specs.Tables.{class_of}
 use Rattle.edetector.specs.Bettors.{Strategy}
-use Rattle.edetector.specs.Ledger.{Terms, Standing, outcome, after_stake, after_settle, rings, rearm_outcome}
+use Rattle.edetector.specs.Monitors.{Terms, Standing, outcome, after_settle, rings, rearm_outcome}
+use Rattle.edetector.proofs.Standings.{after_stake, standing}
 use Rattle.edetector.specs.States.{is_staked}
-use Rattle.edetector.specs.View.{standing}
 use Rattle.plantlog.specs.Format.{Fields, Table, Setup, Alternative, Count, Rearm, End}
 use Rattle.daybook.specs.declared.entry.unwatched.Unwatched.{Unwatched}
 use Rattle.daybook.specs.Books.{all_used, above}

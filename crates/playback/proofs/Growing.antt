@@ -3,7 +3,7 @@ use Rattle.std.proofs.Common.{◌≡◌, ℕ, ◌≤◌, ◌-◌, ◌+◌, Bool,
 use Rattle.std.proofs.lemmas.List.{length-take-le, drop-drop}
 use Rattle.daybook.specs.declared.book.Book.{Book}
 use Rattle.daybook.specs.Books.{entries_of, Keeps}
-use Rattle.edetector.specs.Ledger.{Terms}
+use Rattle.edetector.specs.Monitors.{Terms}
 use Rattle.playback.specs.declared.stop.ReplayFault.{ReplayFault}
 use Rattle.playback.specs.declared.books.Books.{Books}
 use Rattle.playback.specs.Rest.{Rest}

@@ -2,7 +2,7 @@
 use Rattle.std.proofs.Common.{◌≡◌, ℕ, ◌+◌, ◌<◌, true, cond, eqb, ltb, List, [], ◌∷◌, ◌++◌, length, Some, None, Ok, Err, Option, sym, refl, ap, ◌∙◌, subst, ap₂, inl, inr, append_assoc, arith}
 use Rattle.std.proofs.lemmas.List.{append-nil, length-append}
 use Rattle.std.proofs.lemmas.Bool.Decides.{nat_tests}
-use Rattle.edetector.specs.Ledger.{Terms}
+use Rattle.edetector.specs.Monitors.{Terms}
 use Rattle.plantlog.specs.Format.{Fields, Table, Setup, Alternative, Count, Rearm, End}
 use Rattle.playback.specs.declared.stop.ReplayFault.{ReplayFault}
 use Rattle.playback.specs.declared.stop.ReplayFault.TheVariants.{CountsDiffer, Trailing}

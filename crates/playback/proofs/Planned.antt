@@ -9,10 +9,9 @@ use Rattle.edetector.specs.Rules.{bet}
 use Rattle.edetector.specs.Tables.{class_of}
 use Rattle.edetector.specs.Bettors.{Strategy}
 use Rattle.edetector.specs.States.{is_armed, is_staked}
-use Rattle.edetector.specs.Ledger.{Terms, Standing, stake_outcome, after_settle, rings, rearm_outcome}
-use Rattle.edetector.specs.Calls.{Call, Stake, Answer, OfSettle, is_round, is_alarm, calls_outcome}
-use Rattle.edetector.specs.Plans.{Plan, plan_calls, next_outcome}
-use Rattle.edetector.specs.View.{standing}
+use Rattle.edetector.specs.Monitors.{Terms, Standing, stake_outcome, after_settle, rings, rearm_outcome, Call, Stake, Answer, OfSettle, is_round, is_alarm, calls_outcome, next_outcome}
+use Rattle.edetector.specs.Plans.{Plan, plan_calls}
+use Rattle.edetector.proofs.Standings.{standing}
 use Rattle.edetector.proofs.Runs.{CountsRounds, only_alarms, answers_from, accepted, next_is, run_none, run_more}
 use Rattle.playback.specs.Watch.{Places, alarm_if}
 use Rattle.playback.specs.Course.{Event, Settled, Passed, Rearmed, after_event, alarm_of, alarms_of, free_after, AllRightly}

@@ -4,7 +4,7 @@ use Rattle.std.proofs.Common.{arith}
 use Rattle.std.proofs.lemmas.Bool.{cond_both}
 use Rattle.edetector.specs.Rules.{bet, IsRestartRule}
 use Rattle.edetector.specs.Bettors.{IsBettor, fixed_meaning, adaptive_meaning}
-use Rattle.edetector.specs.Ledger.{terms, first_standing}
+use Rattle.edetector.specs.Monitors.{terms, first_standing}
 use Rattle.edetector.specs.Lemmas.Mixtures.{mixture_law}
 use Rattle.edetector.specs.Lemmas.Ratios.{fixed_law}
 use Rattle.edetector.specs.Lemmas.Tallies.{adaptive_law}

@@ -10,8 +10,8 @@ use Rattle.edetector.specs.declared.fault.MonitorFault.TheVariants.{NotArmed, Sp
 use Rattle.edetector.specs.Rules.{bet}
 use Rattle.edetector.specs.Tables.{class_of}
 use Rattle.edetector.specs.Bettors.{Strategy}
-use Rattle.edetector.specs.Ledger.{Terms, outcome, after_stake, after_settle, rings, rearm_outcome}
-use Rattle.edetector.specs.View.{standing}
+use Rattle.edetector.specs.Monitors.{Terms, outcome, after_settle, rings, rearm_outcome}
+use Rattle.edetector.proofs.Standings.{after_stake, standing}
 use Rattle.daybook.specs.declared.fault.BookFault.TheVariants.{Full}
 use Rattle.daybook.specs.declared.entry.unwatched.Unwatched.{Unwatched}
 use Rattle.daybook.specs.Books.{all_used, above}

@@ -7,7 +7,7 @@ use Rattle.edetector.specs.declared.slip.OpenSlip.{OpenSlip}
 use Rattle.edetector.specs.declared.slip.ShownSlip.{ShownSlip}
 use Rattle.edetector.specs.declared.fault.MonitorFault.{MonitorFault}
 use Rattle.edetector.specs.declared.fault.Refused.{Refused}
-use Rattle.edetector.specs.Ledger.{Terms, Standing, stake_outcome, settle_outcome}
+use Rattle.edetector.specs.Monitors.{Terms, Standing, stake_outcome, settle_outcome}
 use Rattle.playback.specs.declared.stop.ReplayFault.{ReplayFault}
 use Rattle.playback.specs.declared.stop.ReplayFault.TheVariants.{Book, DayNotAbove}
 use Rattle.daybook.specs.declared.fault.BookFault.TheVariants.{Full}

@@ -9,11 +9,10 @@ use Rattle.edetector.specs.declared.fault.MonitorFault.{MonitorFault}
 use Rattle.edetector.specs.declared.fault.MonitorFault.TheVariants.{NotArmed, Spent, Misfit}
 use Rattle.edetector.specs.declared.fault.Refused.{Refused}
 use Rattle.edetector.specs.declared.slip.ShownSlip.{ShownSlip}
-use Rattle.edetector.specs.Plans.{next_outcome}
 use Rattle.edetector.specs.Tables.{class_of}
 use Rattle.edetector.specs.Bettors.{Strategy}
-use Rattle.edetector.specs.Ledger.{Terms, Standing, outcome, after_stake, after_settle, rings, after_rearm}
-use Rattle.edetector.specs.View.{standing}
+use Rattle.edetector.specs.Monitors.{Terms, Standing, outcome, after_settle, rings, next_outcome}
+use Rattle.edetector.proofs.Standings.{after_stake, after_rearm, standing}
 use Rattle.daybook.specs.declared.entry.alarm.Alarm.{Alarm}
 use Rattle.playback.specs.Watch.{alarm_if}
 use Rattle.playback.specs.Course.{Settled, after_event}

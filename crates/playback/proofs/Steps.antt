@@ -1,7 +1,7 @@
 -- What one record does to the rest of a replay.
 use Rattle.std.proofs.Common.{◌≡◌, ℕ, ◌<◌, true, false, List, [], ◌∷◌, length, drop, Ok, Err, Result, sym, refl, ap, ◌∙◌, ap₂, arith, length-drop}
 use Rattle.std.specs.Result.{result_and}
-use Rattle.edetector.specs.Ledger.{Terms, Standing, outcome}
+use Rattle.edetector.specs.Monitors.{Terms, Standing, outcome}
 use Rattle.plantlog.specs.declared.fault.RecordFault.{RecordFault}
 use Rattle.plantlog.specs.declared.fault.RecordFault.TheVariants.{NoneLeft}
 use Rattle.plantlog.specs.declared.record.Kind.{Kind}

@@ -10,8 +10,8 @@ use Rattle.edetector.specs.Rules.{bet}
 use Rattle.edetector.specs.States.{is_staked}
 use Rattle.edetector.specs.Tables.{class_of, from_to}
 use Rattle.edetector.specs.Bettors.{Strategy, Meaning}
-use Rattle.edetector.specs.Ledger.{Terms, Standing, rings, rearm_outcome, terms}
-use Rattle.edetector.specs.View.{standing}
+use Rattle.edetector.specs.Monitors.{Terms, Standing, rings, rearm_outcome, terms}
+use Rattle.edetector.proofs.Standings.{standing}
 use Rattle.plantlog.specs.declared.record.Setup.{Setup as SetupValue}
 use Rattle.plantlog.specs.Calls.{span}
 use Rattle.plantlog.specs.Format.{Fields, Table, Setup, Alternative, Count, Rearm, End, record_bytes}

@@ -4,9 +4,8 @@ use Rattle.edetector.specs.declared.state.State.{State}
 use Rattle.edetector.specs.declared.state.State.TheVariants.{Armed, Staked, Rung}
 use Rattle.edetector.specs.Rules.{bet}
 use Rattle.edetector.specs.Tables.{class_of, unit_factor}
-use Rattle.edetector.specs.Ledger.{Terms, Standing, stake_outcome, rearm_outcome}
+use Rattle.edetector.specs.Monitors.{Terms, Standing, stake_outcome, rearm_outcome, next_outcome}
 use Rattle.edetector.specs.States.{most_rounds}
-use Rattle.edetector.specs.Plans.{next_outcome}
 use Rattle.edetector.specs.declared.fault.MonitorFault.TheVariants.{NotArmed, Spent}
 use Rattle.plantlog.specs.declared.fault.RecordFault.TheVariants.{NoneLeft}
 use Rattle.plantlog.specs.Format.{Fields, Count, Rearm, End}

@@ -3,7 +3,7 @@ use Rattle.std.specs.Prelude.{◌≡◌, ◌≤◌, [], length, None}
 use Rattle.daybook.specs.declared.book.Book.{Book}
 use Rattle.daybook.specs.declared.entry.alarm.Alarm.{Alarm}
 use Rattle.daybook.specs.declared.entry.unwatched.Unwatched.{Unwatched}
-use Rattle.edetector.specs.Ledger.{Standing}
+use Rattle.edetector.specs.Monitors.{Standing}
 use Rattle.daybook.specs.Books.{entries_of, places_of, Keeps}
 use Rattle.playback.specs.declared.books.Books.{Books}
 use Rattle.playback.specs.Rest.{Rest}

@@ -1,10 +1,9 @@
 -- A replay as the run of a plan of calls, of the kind that the bound speaks of, which is the same whatever is counted.
-use Rattle.std.specs.Prelude.{◌≡◌, ℕ, if◌then◌else◌, List, [], ◌∷◌, ◌++◌, length}
+use Rattle.std.specs.Prelude.{count_by, ◌≡◌, ℕ, if◌then◌else◌, List, [], ◌∷◌, ◌++◌, length}
 use Rattle.edetector.specs.Tables.{class_of}
 use Rattle.edetector.specs.States.{is_armed}
-use Rattle.edetector.specs.Ledger.{Terms, Standing, stake_outcome, rearm_outcome}
-use Rattle.edetector.specs.Calls.{Stake, Rearm, alarms_in, rounds_in}
-use Rattle.edetector.specs.Plans.{Plan, next_outcome, run}
+use Rattle.edetector.specs.Monitors.{Terms, Standing, stake_outcome, rearm_outcome, Stake, Rearm, is_alarm, is_round, next_outcome}
+use Rattle.edetector.specs.Plans.{Plan, run}
 use Rattle.playback.specs.Watch.{Places}
 use Rattle.playback.specs.Course.{Event, Settled, Passed, Rearmed, AllRightly, alarms_of}
 
@@ -42,8 +41,8 @@ calls_before t s (ToRearm ∷ turns) (k ∷ past) = calls_before t (rearm_outcom
 -- the run on the classes of the settled counts has an alarm for each that the events enter, and a round for each count that
 -- they settle
 pub record IsRun (t : Terms) (p : Plan) (s : Standing) (es : List Event) : Type 0 where
-  pub alarms : alarms_in (run t p s (classes_of t es)) ≡ length (alarms_of t s es)
-  pub rounds : rounds_in (run t p s (classes_of t es)) ≡ length (classes_of t es)
+  pub alarms : count_by is_alarm (run t p s (classes_of t es)) ≡ length (alarms_of t s es)
+  pub rounds : count_by is_round (run t p s (classes_of t es)) ≡ length (classes_of t es)
 
 -- the plan is of the events' turns, and of any that would have come after them
 abbrev pub Planned : Type 0

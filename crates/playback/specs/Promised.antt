@@ -1,8 +1,8 @@
 -- The bound on alarms, of replays.
 use Rattle.std.specs.Prelude.{◌≡◌, ℕ, ◌*◌, ◌≤◌, true, List, length, None}
 use Rattle.edetector.specs.Tables.{null_fault, alternative_fault}
-use Rattle.edetector.specs.Ledger.{terms, first_standing}
-use Rattle.edetector.specs.Plans.{weighted_alarms, weighted_rounds, Bound}
+use Rattle.edetector.specs.Monitors.{terms, first_standing, is_alarm, is_round}
+use Rattle.edetector.specs.Plans.{weighted_count, Bound}
 use Rattle.plantlog.specs.declared.record.Setup.{Setup}
 use Rattle.plantlog.specs.declared.record.BettorChoice.{BettorChoice}
 use Rattle.playback.specs.Replayed.{rule_base, meaning_of, has_alternative}
@@ -24,5 +24,5 @@ Promised = (ws : List ℕ) (x : Setup) (alts : List ℕ) → WithinLimits ws x.b
     let t = terms m (rule_base x.rule) x.threshold in
     let s = first_standing t 1 m in
     ((turns : List Turn) (h : ℕ) →
-    let plan = calls_before t s turns in x.threshold * weighted_alarms t s plan h ≤ weighted_rounds t s plan h)
+    let plan = calls_before t s turns in x.threshold * weighted_count is_alarm t s plan h ≤ weighted_count is_round t s plan h)
     × Bound m (rule_base x.rule) x.threshold 1

@@ -4,7 +4,7 @@ use Rattle.edetector.specs.declared.value.ValueFault.TheVariants.{Alternative as
 use Rattle.edetector.specs.Tables.{from_to}
 use Rattle.edetector.specs.Rules.{shiryaev_roberts, page}
 use Rattle.edetector.specs.Bettors.{Meaning, fixed_meaning, adaptive_meaning, mixture}
-use Rattle.edetector.specs.Ledger.{Terms, terms, first_standing, read_outcome}
+use Rattle.edetector.specs.Monitors.{Terms, terms, first_standing, read_outcome}
 use Rattle.plantlog.specs.declared.fault.RecordFault.TheVariants.{NoneLeft}
 use Rattle.plantlog.specs.declared.record.Setup.{Setup}
 use Rattle.plantlog.specs.declared.record.BettorChoice.{BettorChoice}

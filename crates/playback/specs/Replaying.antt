@@ -1,6 +1,6 @@
 -- A replay: the log's records, one after the other, until its end or the first fault.
 use Rattle.std.specs.Prelude.{ℕ, ◌+◌, Some, None, Ok, Err, Option, Result}
-use Rattle.edetector.specs.Ledger.{Terms}
+use Rattle.edetector.specs.Monitors.{Terms}
 use Rattle.plantlog.specs.declared.fault.RecordFault.TheVariants.{NoneLeft}
 use Rattle.plantlog.specs.Format.{Count, Rearm, End}
 use Rattle.playback.specs.declared.stop.ReplayFault.{ReplayFault}

@@ -1,6 +1,6 @@
 -- One record of a log: how the rest of the replay follows from it.
 use Rattle.std.specs.Prelude.{◌≡◌, ◌<◌, Bool, true, false, length, Ok, Err, Result}
-use Rattle.edetector.specs.Ledger.{Terms}
+use Rattle.edetector.specs.Monitors.{Terms}
 use Rattle.playback.specs.declared.stop.ReplayFault.{ReplayFault}
 use Rattle.playback.specs.Stream.{stream_of}
 use Rattle.playback.specs.Watch.{Watch, Places}

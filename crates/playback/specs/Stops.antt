@@ -1,6 +1,7 @@
 -- The number and the place of each cause that stops a replay.
 use Rattle.std.specs.Prelude.{ℕ}
-use Rattle.edetector.specs.Faults.{value_number, monitor_number}
+use Rattle.edetector.specs.Tables.{value_number}
+use Rattle.edetector.specs.Monitors.{monitor_number}
 use Rattle.plantlog.specs.declared.fault.Layer.TheVariants.{Value as OfValue}
 use Rattle.plantlog.specs.RecordFaults.{record_fault_number, record_fault_layer}
 use Rattle.daybook.specs.declared.line.fault.Layer.{Layer}

@@ -6,8 +6,7 @@ use Rattle.edetector.specs.declared.slip.OpenSlip.{OpenSlip}
 use Rattle.edetector.specs.declared.slip.ShownSlip.{ShownSlip}
 use Rattle.edetector.specs.declared.fault.MonitorFault.{MonitorFault}
 use Rattle.edetector.specs.declared.fault.Refused.{Refused}
-use Rattle.edetector.specs.Slips.{shown_slip}
-use Rattle.edetector.specs.Ledger.{Terms, Standing, Outcome, outcome, stake_outcome, settle_outcome, rearm_outcome}
+use Rattle.edetector.specs.Monitors.{shown_slip, Terms, Standing, Outcome, outcome, stake_outcome, settle_outcome, rearm_outcome}
 use Rattle.plantlog.specs.Results.{of_err}
 use Rattle.playback.specs.declared.stop.ReplayFault.{ReplayFault}
 use Rattle.playback.specs.declared.stop.ReplayFault.TheVariants.{Monitor, Book, DayNotAbove, CountsDiffer}

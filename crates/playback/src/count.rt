@@ -2,7 +2,7 @@
 // place before the record is taken, and each function says what it leaves alone (`terms`, `kept`): one that did both would
 // take the record's two ways as closures.
 ghost use Rattle.std.specs.Prelude.{◌≡◌, Ok};
-ghost use Rattle.edetector.specs.View.{view, terms_of};
+ghost use Rattle.edetector.specs.Monitors.{view, terms_of};
 ghost use Rattle.plantlog.specs.declared.record.Kind.TheVariants.{Count as ACount};
 ghost use Rattle.plantlog.specs.Results.{of_ok};
 ghost use Rattle.plantlog.specs.Format.{kind_of};

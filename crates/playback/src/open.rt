@@ -1,6 +1,6 @@
 // The header, and the monitor that it asks for.
 ghost use Rattle.std.specs.Prelude.{◌≡◌, IfOk, OnOk};
-ghost use Rattle.edetector.specs.FixedTables.{tables_of};
+ghost use Rattle.edetector.specs.BettorParts.{tables_of};
 ghost use Rattle.plantlog.specs.Results.{of_ok};
 ghost use Rattle.playback.specs.Held.{places_lent, NothingYet, KeepsBooks};
 ghost use Rattle.playback.specs.Replayed.{monitored, replayed, replay_told, alternative_for};
@@ -57,8 +57,8 @@ fn run<B: Bettor + Drop>(
 // The fixed bettor of the alternative in front.
 fn fixed(null: NullTable, records: &mut Records<'_>) -> Result<Fixed, Fault>
     ensures value {
-        of_ok (λ b. (tables_of b).alternative) result ≡ at_spot records.old.at (alternative_for null records.old.left) }
-    ensures table { IfOk result (λ b. (tables_of b).null ≡ null) }
+        of_ok (λ b. (tables_of b).1) result ≡ at_spot records.old.at (alternative_for null records.old.left) }
+    ensures table { IfOk result (λ b. (tables_of b).0 ≡ null) }
     ensures moved { OnOk result (records.new ≡ behind_record records.old) }
 {
     let at = records.spot();

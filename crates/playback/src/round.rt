@@ -1,7 +1,6 @@
 // One watched count: stake, show, settle, and enter the alarm if it rang.
 ghost use Rattle.std.specs.Prelude.{◌≡◌, true, false, Ok};
-ghost use Rattle.edetector.specs.Ledger.{is_fitting};
-ghost use Rattle.edetector.specs.View.{view, terms_of};
+ghost use Rattle.edetector.specs.Monitors.{is_fitting, view, terms_of};
 ghost use Rattle.plantlog.specs.declared.record.Kind.TheVariants.{Count as ACount};
 ghost use Rattle.plantlog.specs.Results.{of_ok};
 ghost use Rattle.plantlog.specs.Format.{kind_of};

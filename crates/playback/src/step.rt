@@ -1,7 +1,6 @@
 // A rearm record, and the end.
 ghost use Rattle.std.specs.Prelude.{◌≡◌, Ok};
-ghost use Rattle.edetector.specs.Ledger.{outcome};
-ghost use Rattle.edetector.specs.View.{view, terms_of};
+ghost use Rattle.edetector.specs.Monitors.{outcome, view, terms_of};
 ghost use Rattle.plantlog.specs.declared.record.Kind.TheVariants.{Rearm as ARearm, End as AnEnd};
 ghost use Rattle.plantlog.specs.Results.{of_ok};
 ghost use Rattle.plantlog.specs.Format.{kind_of};

@@ -1,6 +1,6 @@
 // The records after the header, one by one, until the end or the first fault.
 ghost use Rattle.std.specs.Prelude.{◌≡◌};
-ghost use Rattle.edetector.specs.View.{view, terms_of};
+ghost use Rattle.edetector.specs.Monitors.{view, terms_of};
 ghost use Rattle.playback.specs.Held.{watch_of, places_lent, NothingYet, KeepsBooks};
 ghost use Rattle.playback.specs.Rising.{Rising};
 ghost use Rattle.playback.specs.Replaying.{stopped};

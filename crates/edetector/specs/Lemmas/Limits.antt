@@ -1,9 +1,13 @@
 -- What a table keeps that breaks no limit.
-use Rattle.std.specs.Prelude.{◌≡◌, ℕ, zero, suc, ◌+◌, ◌<◌, ◌≤◌, Bool, true, false, cond, not, List, [], ◌∷◌, length, sum, Some, None, slice_index, refl}
+use Rattle.std.specs.Prelude.{◌≡◌, ℕ, zero, suc, ◌+◌, ◌*◌, ◌<◌, ◌≤◌, Bool, true, false, cond, not, List, [], ◌∷◌, length, sum, Some, None, slice_index, refl}
 use Rattle.std.proofs.Common.{le_of_suc-le-suc, not-suc-le-zero}
 use Rattle.std.proofs.lemmas.Bool.{and_parts, leb-true}
 use Rattle.edetector.specs.declared.value.ValueFault.TheVariants.{Classes, Weight, Total}
-use Rattle.edetector.specs.Tables.{fewest_classes, most_classes, most_weight, most_total, from_to, weights_within, table_fault}
+use Rattle.edetector.specs.Tables.{fewest_classes, most_classes, most_weight, most_total, from_to, weights_within, table_fault, unit_factor}
+
+-- no factor of a fair row is larger, since each weight is at least 1
+abbrev pub most_factor : ℕ
+most_factor = unit_factor * most_total
 
 -- the limits of a table, one by one
 pub record TableLimits (low : ℕ) (ws : List ℕ) : Type 0 where

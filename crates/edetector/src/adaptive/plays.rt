@@ -1,12 +1,12 @@
 // How the adaptive bettor is made, what it plays and how it learns.
-ghost use Rattle.std.specs.Prelude.{◌≡◌, ◌≤◌, [], length};
-ghost use Rattle.edetector.specs.Bettors.{most_tallied, adaptive_meaning};
-ghost use Rattle.edetector.specs.Tallies.{null_of, tally_of, tally_after, SameCounts};
+ghost use Rattle.std.specs.Prelude.{◌≡◌, ℕ, ◌≤◌, [], length};
+ghost use Rattle.edetector.specs.Bettors.{most_tallied, times, adaptive_meaning};
+ghost use Rattle.edetector.specs.BettorParts.{null_of, tally_of, tally_after};
 ghost use Rattle.edetector.specs.Lemmas.Tallies.{adaptive_law};
 
 use super::super::bettor::Bettor;
 use super::super::ratio::likelihood_ratio;
-use super::super::table::NullTable;
+use super::super::table::{MOST_CLASSES, NullTable};
 use super::super::units::{Factor, Weight};
 use super::Adaptive;
 
@@ -23,7 +23,7 @@ impl Adaptive {
         let _ = null.classes();
         Adaptive {
             null,
-            counts: [0; 16],
+            counts: [0; MOST_CLASSES],
             tallied: 0,
         }
     }
@@ -55,9 +55,10 @@ impl Bettor for Adaptive {
     // Once a million classes are tallied, nothing changes any more.
     fn learn(&mut self, class: usize)
         ensures table { null_of self.new ≡ null_of self.old }
-        ensures tally {
-            let tally = tally_after (length (null_of self.old)) (tally_of self.old) class in
-            SameCounts (tally_of self.new) tally }
+        ensures times { let tally = tally_after (length (null_of self.old)) (tally_of self.old) class in
+            (k : ℕ) → times k (tally_of self.new) ≡ times k tally }
+        ensures tallied { let tally = tally_after (length (null_of self.old)) (tally_of self.old) class in
+            length (tally_of self.new) ≡ length tally }
         ensures none { length (null_of self.old) ≤ class → self.new ≡ self.old }
         ensures full { most_tallied ≤ length (tally_of self.old) → self.new ≡ self.old }
     {

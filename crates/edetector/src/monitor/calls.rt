@@ -1,12 +1,12 @@
-// How a monitor is made, and its five calls. What each answers, leaves alone and does when it refuses is its own promise.
+// How a monitor is made, and its five calls.
 ghost use Rattle.std.specs.Prelude.{◌≡◌, ◌*◌, ◌/◌, ◌≤◌, ◌↔◌, IsTrue, OnErr, IsSome, IfSome};
 ghost use Rattle.edetector.specs.declared.monitor.phase.Phase.TheVariants.{Staked};
-ghost use Rattle.edetector.specs.Ledger.{outcome, is_fitting, stake_outcome, settle_outcome, withdraw_outcome, rearm_outcome, read_outcome};
+ghost use Rattle.edetector.specs.Monitors.{outcome, is_fitting, stake_outcome, settle_outcome, withdraw_outcome, rearm_outcome, read_outcome, view, terms_of, bettor_of, rule_of, seen, new_monitor, AfterCalls};
 ghost use Rattle.edetector.specs.Plans.{Bound};
 ghost use Rattle.edetector.specs.Rules.{bet};
-ghost use Rattle.edetector.specs.Tables.{unit_factor, most_factor};
+ghost use Rattle.edetector.specs.Tables.{unit_factor};
+ghost use Rattle.edetector.specs.Lemmas.Limits.{most_factor};
 ghost use Rattle.std.specs.Result.{result_map_both};
-ghost use Rattle.edetector.specs.View.{view, terms_of, bettor_of, rule_of, seen, new_monitor, AfterCalls};
 
 use super::super::bettor::Bettor;
 use super::super::fault::{MonitorFault, Refused, Unmade};
@@ -34,10 +34,10 @@ fn ledger_after(base: Base, factor: Factor) -> Wealth
 }
 
 impl<B: Bettor, R: RestartRule> Monitor<B, R> {
-    // Whatever the bettor, the rule and the plan of calls, the alarms are bounded.
+    /// Refused where the threshold is not 1 to 4,096. Whatever the bettor, the rule and the plan of calls, the alarms are
+    /// bounded; and after any calls a monitor has answered, and stands, as the calls one by one say.
     pub fn new(bettor: B, rule: R, threshold: u32, tag: u32) -> Result<Monitor<B, R>, Unmade<B, R>>
-        ensures made {
-            result_map_both (seen B.meaning R.base) (λ e. e) result
+        ensures made { result_map_both (seen B.meaning R.base) (λ e. e) result
             ≡ new_monitor B.meaning R.base bettor rule threshold tag }
         ensures calls { AfterCalls B.meaning R.base }
         ensures bound { Bound (B.meaning bettor) (R.base rule) threshold tag }
@@ -61,10 +61,9 @@ impl<B: Bettor, R: RestartRule> Monitor<B, R> {
         })
     }
 
-    // Copies the row now, before any count is seen.
+    /// Copies the row now, before any count is seen. Refused while staked or rung, and after 1,000,000 settled rounds.
     pub fn stake(&mut self) -> Result<OpenSlip, MonitorFault>
-        ensures does {
-            outcome result (view B.meaning self.new)
+        ensures does { outcome result (view B.meaning self.new)
             ≡ stake_outcome (terms_of B.meaning R.base self.old) (view B.meaning self.old) }
         ensures same { terms_of B.meaning R.base self.new ≡ terms_of B.meaning R.base self.old }
         ensures kept { (bettor_of self.new ≡ bettor_of self.old) × (rule_of self.new ≡ rule_of self.old) }
@@ -83,10 +82,10 @@ impl<B: Bettor, R: RestartRule> Monitor<B, R> {
         })
     }
 
+    /// Answers whether it rang. A slip that does not fit is handed back.
     // The staked factor is read before the bettor learns the class.
     pub fn settle(&mut self, slip: ShownSlip) -> Result<bool, Refused<ShownSlip>>
-        ensures does {
-            outcome result (view B.meaning self.new)
+        ensures does { outcome result (view B.meaning self.new)
             ≡ settle_outcome (terms_of B.meaning R.base self.old) (view B.meaning self.old) slip }
         ensures same { terms_of B.meaning R.base self.new ≡ terms_of B.meaning R.base self.old }
         ensures kept { rule_of self.new ≡ rule_of self.old }
@@ -100,7 +99,10 @@ impl<B: Bettor, R: RestartRule> Monitor<B, R> {
             });
         };
         let factor = stake.factor(k);
-        let ShownSlip { stake: spent, count: _ } = slip;
+        let ShownSlip {
+            stake: spent,
+            count: _,
+        } = slip;
         let OpenSlip { tag: _, number: _ } = spent;
         self.ledger = ledger_after(self.rule.restart(self.ledger), factor);
         self.bettor.learn(k);
@@ -115,9 +117,9 @@ impl<B: Bettor, R: RestartRule> Monitor<B, R> {
         Ok(rang)
     }
 
+    /// Takes a stake back that was shown no count. A slip that does not fit is handed back.
     pub fn withdraw(&mut self, slip: OpenSlip) -> Result<(), Refused<OpenSlip>>
-        ensures does {
-            outcome result (view B.meaning self.new)
+        ensures does { outcome result (view B.meaning self.new)
             ≡ withdraw_outcome (terms_of B.meaning R.base self.old) (view B.meaning self.old) slip }
         ensures same { terms_of B.meaning R.base self.new ≡ terms_of B.meaning R.base self.old }
         ensures kept { (bettor_of self.new ≡ bettor_of self.old) × (rule_of self.new ≡ rule_of self.old) }
@@ -134,9 +136,9 @@ impl<B: Bettor, R: RestartRule> Monitor<B, R> {
         Ok(())
     }
 
+    /// Refused while staked.
     pub fn rearm(&mut self) -> Result<(), MonitorFault>
-        ensures does {
-            outcome result (view B.meaning self.new)
+        ensures does { outcome result (view B.meaning self.new)
             ≡ rearm_outcome (terms_of B.meaning R.base self.old) (view B.meaning self.old) }
         ensures same { terms_of B.meaning R.base self.new ≡ terms_of B.meaning R.base self.old }
         ensures kept { (bettor_of self.new ≡ bettor_of self.old) × (rule_of self.new ≡ rule_of self.old) }
@@ -150,9 +152,9 @@ impl<B: Bettor, R: RestartRule> Monitor<B, R> {
         Ok(())
     }
 
+    /// Changes nothing.
     pub fn read(&self) -> Reading
-        ensures {
-            outcome result (view B.meaning self.now)
+        ensures { outcome result (view B.meaning self.now)
             ≡ read_outcome (terms_of B.meaning R.base self.now) (view B.meaning self.now) }
     {
         Reading {
@@ -169,7 +171,9 @@ impl<B: Bettor, R: RestartRule> Monitor<B, R> {
         ensures staked { IfSome result (λ stake. self.now.phase ≡ Staked stake.now) }
     {
         match &self.phase {
-            Phase::Staked(stake) if slip.tag == self.tag && slip.number == self.rounds + 1 => Some(stake),
+            Phase::Staked(stake) if slip.tag == self.tag && slip.number == self.rounds + 1 => Some(
+                stake,
+            ),
             _ => None,
         }
     }

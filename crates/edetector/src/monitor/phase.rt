@@ -1,7 +1,7 @@
 // What a monitor is doing, and the row that a stake has copied.
 ghost use Rattle.std.specs.Prelude.{◌≡◌, ℕ, ◌<◌, ◌≤◌, [], length, take, slice_index};
-ghost use Rattle.edetector.specs.Units.{factors_in};
-ghost use Rattle.edetector.specs.Tables.{most_factor};
+ghost use Rattle.edetector.specs.Tables.{factors_in, most_classes};
+ghost use Rattle.edetector.specs.Lemmas.Limits.{most_factor};
 
 use super::super::bettor::Bettor;
 use super::super::state::State;
@@ -30,7 +30,7 @@ impl Stake {
 
     #[tactic(auto, using(crate::proofs::Copying::factor_at))]
     pub(super) fn factor(&self, class: usize) -> Factor
-        requires { class < 16 }
+        requires { class < most_classes }
         ensures value { result.0 ≡ slice_index (factors_in self.now.row) class }
         ensures small { result.0 ≤ most_factor }
     {
@@ -39,7 +39,7 @@ impl Stake {
 }
 
 impl Phase {
-    ghost use Rattle.edetector.specs.Phases.{state_of};
+    ghost use Rattle.edetector.specs.States.{state_of};
 
     pub(super) fn state(&self) -> State
         ensures { result ≡ state_of self.now }

@@ -1,7 +1,6 @@
 // Tables made of what a host hands over, or refused.
 ghost use Rattle.std.specs.Prelude.{◌≡◌, ◌^◌, ◌<◌, ◌≤◌, ◌↔◌, ◌-◌, All, IsTrue, length, sum_by, take, drop, replicate};
-ghost use Rattle.edetector.specs.Units.{weights_in};
-ghost use Rattle.edetector.specs.Tables.{table_fault, unless_fault, most_classes, most_weight};
+ghost use Rattle.edetector.specs.Tables.{weights_in, table_fault, unless_fault, most_classes, most_weight};
 
 use super::super::units::Weight;
 use super::super::value::ValueFault;

@@ -1,7 +1,6 @@
 // The numbers of a table to be written.
 ghost use Rattle.std.specs.Prelude.{◌≡◌, ◌+◌, ◌≤◌, ◌∷◌, length};
-ghost use Rattle.edetector.specs.Tables.{most_classes};
-ghost use Rattle.edetector.specs.Units.{weights_in};
+ghost use Rattle.edetector.specs.Tables.{most_classes, weights_in};
 
 use edetector::units::Weight;
 

@@ -1,7 +1,7 @@
 -- Each of sixteen calls gives half the sum of two factors.
 use Rattle.std.proofs.Common.{◌≡◌, ◌+◌, ◌/◌, length, get_or, refl, sym, ap₂, ◌∙◌, arith, rules}
 use Rattle.std.proofs.lemmas.List.{length-map, ext_get_or}
-use Rattle.edetector.specs.Units.{factors_in}
+use Rattle.edetector.specs.Tables.{factors_in}
 use Rattle.edetector.specs.Bettors.{averages}
 use Rattle.edetector.specs.Lemmas.Mixtures.{averages_at, averages_long}
 use Rattle.edetector.proofs.Copying.{factor_at}

@@ -1,4 +1,4 @@
-use Rattle.edetector.specs.Units.{weights_in}
+use Rattle.edetector.specs.Tables.{weights_in}
 use Rattle.plantlog.specs.Format.{Alternative}
 use Rattle.plantlog.proofs.writer.write_alternative.Given as goal
 

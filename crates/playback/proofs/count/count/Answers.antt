@@ -1,5 +1,5 @@
 use Rattle.std.proofs.Common.{sym, ap, ◌∙◌}
-use Rattle.edetector.specs.View.{view, terms_of}
+use Rattle.edetector.specs.Monitors.{view, terms_of}
 use Rattle.daybook.specs.Books.{entries_of}
 use Rattle.playback.specs.Front.{next_fields, count_next}
 use Rattle.playback.specs.Held.{places_lent}

@@ -1,7 +1,7 @@
 -- Each record by its kind; the records stand as before once the kind is known.
 use Rattle.std.proofs.Common.{Ok, sym, ap, ◌∙◌}
 use Rattle.std.proofs.lemmas.Result.{err_from_is_err_and}
-use Rattle.edetector.specs.View.{view, terms_of}
+use Rattle.edetector.specs.Monitors.{view, terms_of}
 use Rattle.playback.specs.Front.{next_fields}
 use Rattle.playback.specs.Held.{watch_of, places_lent}
 use Rattle.playback.proofs.Steps.{refused_next, count_stepped, count_goes, rearm_stepped, rearm_goes, end_stepped, header_stepped, kind_refused}

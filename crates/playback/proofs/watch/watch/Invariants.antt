@@ -1,5 +1,5 @@
 use Rattle.std.proofs.Common.{◌≡◌, length}
-use Rattle.edetector.specs.View.{view, terms_of}
+use Rattle.edetector.specs.Monitors.{view, terms_of}
 use Rattle.playback.specs.Held.{watch_of, places_lent, KeepsBooks}
 use Rattle.playback.specs.Rising.{Rising}
 use Rattle.playback.specs.Stepping.{comes_to}

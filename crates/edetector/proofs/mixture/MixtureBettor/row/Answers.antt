@@ -1,6 +1,6 @@
 use Rattle.std.proofs.Common.{cond, [], sym, ◌∙◌, ap, ap₂}
 use Rattle.edetector.specs.Bettors.{averages}
-use Rattle.edetector.specs.Units.{padded}
+use Rattle.edetector.specs.Tables.{padded}
 use Rattle.edetector.specs.Lemmas.Mixtures.{level}
 use Rattle.edetector.proofs.Copying.{padded_averages}
 use Rattle.edetector.proofs.mixture.MixtureBettor.row.Goals as goal

@@ -3,8 +3,7 @@ use Rattle.std.proofs.Common.{◌≡◌, ◌<◌, ◌⊎◌, take, length, Ok, r
 use Rattle.std.specs.List.{sum}
 use Rattle.std.proofs.lemmas.Bool.{false≢true}
 use Rattle.std.proofs.lemmas.List.{length-map}
-use Rattle.edetector.specs.Units.{weights_in}
-use Rattle.edetector.specs.Tables.{most_total, table_fault, unless_fault}
+use Rattle.edetector.specs.Tables.{weights_in, most_total, table_fault, unless_fault}
 use Rattle.edetector.proofs.Limits.{weights_broken, total_broken}
 use Rattle.edetector.proofs.UnitLists.{units_each, units_without, units_sum, units_light, units_unbroken, padded_units}
 use Rattle.edetector.proofs.table.Table.new.Goals as goal

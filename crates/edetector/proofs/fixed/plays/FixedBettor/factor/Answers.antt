@@ -1,6 +1,6 @@
 use Rattle.std.proofs.Common.{◌≡◌, ap, ◌∙◌, get_or, arith}
 use Rattle.std.proofs.lemmas.Grind.{common_steps}
-use Rattle.edetector.specs.Units.{factors_in}
+use Rattle.edetector.specs.Tables.{factors_in}
 use Rattle.edetector.proofs.Copying.{factor_at, padded_at}
 use Rattle.edetector.proofs.fixed.plays.FixedBettor.factor.Goals as goal
 

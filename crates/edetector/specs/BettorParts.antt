@@ -1,0 +1,32 @@
+-- What the fixed and the adaptive bettor are made of.
+use Rattle.std.specs.Prelude.{ℕ, suc, if◌then◌else◌, List, [], ◌∷◌, ◌++◌, length, take, replicate, Ok, Err, Result, ◌==◌, nat_lt}
+use Rattle.edetector.specs.declared.fixed.Fixed.{Fixed}
+use Rattle.edetector.specs.declared.adaptive.Adaptive.{Adaptive}
+use Rattle.edetector.specs.declared.value.ValueFault.{ValueFault}
+use Rattle.edetector.specs.declared.value.ValueFault.TheVariants.{Alternative}
+use Rattle.edetector.specs.Bettors.{tally_with}
+
+-- the null table of a fixed bettor, and its alternative
+abbrev pub tables_of : Fixed → List ℕ × List ℕ
+tables_of b = (b.null, b.alternative)
+
+-- the two tables handed over, if they have as many classes
+abbrev pub new_fixed : List ℕ → List ℕ → Result (List ℕ × List ℕ) ValueFault
+new_fixed null alternative = if length alternative == length null then Ok (null, alternative) else Err Alternative
+
+abbrev pub null_of : Adaptive → List ℕ
+null_of b = b.null
+
+-- classes from i on, each as often as it was counted
+abbrev pub classes_counted : ℕ → List ℕ → List ℕ
+classes_counted i [] = []
+classes_counted i (c ∷ counts) = replicate c i ++ classes_counted (suc i) counts
+
+-- the classes that an adaptive bettor has tallied. Its rows do not go by the order in which they came, and it keeps none:
+-- they are seen in ascending order
+abbrev pub tally_of : Adaptive → List ℕ
+tally_of b = classes_counted 0 (take (length b.null) b.counts)
+
+-- the tally once k is learned, out of so many classes
+abbrev pub tally_after : ℕ → List ℕ → ℕ → List ℕ
+tally_after classes tally k = if nat_lt k classes then tally_with tally (k ∷ []) else tally
