@@ -2,7 +2,7 @@
 #![tactic(auto)]
 
 ghost use Rattle.std.specs.Prelude.{◌≡◌, [], ◌∷◌, MatchResult};
-ghost use Rattle.edetector.specs.Weights.{null_weights, alternative_weights};
+ghost use Rattle.edetector.specs.BettorParts.{tables_of};
 
 use edetector::fixed::Fixed;
 use edetector::table::{AlternativeTable, NullTable};
@@ -12,7 +12,7 @@ use edetector::value::ValueFault;
 // The fixed bettor with the null weights 3, 1 and the alternative 1, 1.
 pub fn example_bettor() -> Result<Fixed, ValueFault>
     ensures { MatchResult result
-        (λ b. (null_weights b.null ≡ 3 ∷ 1 ∷ []) × (alternative_weights b.alternative ≡ 1 ∷ 1 ∷ []))
+        (λ b. tables_of b ≡ (3 ∷ 1 ∷ [], 1 ∷ 1 ∷ []))
         (λ _. ⊥) }
 {
     let null = NullTable::new(&[Weight(3), Weight(1)])?;
