@@ -5,7 +5,7 @@ use Rattle.std.proofs.lemmas.List.{get_or_past, take-append-le}
 use Rattle.std.proofs.Math.Seq.{take-length}
 use Rattle.std.proofs.lemmas.Bool.{cases_lt}
 use Rattle.edetector.specs.declared.units.Factor.{Factor}
-use Rattle.edetector.specs.Tables.{factors_in, padded, IsFair, null_fault, unit_factor}
+use Rattle.edetector.specs.Tables.{factors_in, padded_row, IsFair, null_fault, unit_factor}
 use Rattle.edetector.specs.Lemmas.Limits.{most_factor, TableLimits, table_limits}
 use Rattle.edetector.specs.Lemmas.Sums.{weigh, fair_by_class}
 
@@ -26,6 +26,6 @@ small_row ws row table fair long k =
     ⊎_elim (small_within ws row (table_limits 1 ws table) (fair_by_class ws row long fair) k) (λ h. omega (arith, get_or_past row k 0, long, h)) (cases_lt k (length ws))
 
 -- the first places of a copied row are the row
-pub row_copied : (row : List Factor) (ws es : List ℕ) → null_fault ws ≡ None → length es ≡ length ws → factors_in row ≡ padded es → take (length ws) (factors_in row) ≡ es
+pub row_copied : (row : List Factor) (ws es : List ℕ) → null_fault ws ≡ None → length es ≡ length ws → factors_in row ≡ padded_row es → take (length ws) (factors_in row) ≡ es
 row_copied row ws es table long same =
     ap (take (length ws)) same ∙ take-append-le (length ws) es (replicate (16 - length es) 0) (omega (arith, long)) ∙ ap (λ n. take n es) (sym long) ∙ take-length es

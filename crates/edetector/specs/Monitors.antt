@@ -12,7 +12,7 @@ use Rattle.edetector.specs.declared.fault.Refused.{Refused}
 use Rattle.edetector.specs.declared.fault.Unmade.{Unmade}
 use Rattle.edetector.specs.declared.value.ValueFault.TheVariants.{Threshold}
 use Rattle.edetector.specs.Tables.{from_to, class_of, unit_factor}
-use Rattle.edetector.specs.Rules.{bet}
+use Rattle.edetector.specs.Rules.{bet, most_threshold}
 use Rattle.edetector.specs.States.{is_armed, is_staked, most_rounds, state_of, row_in}
 use Rattle.edetector.specs.Bettors.{Meaning, Strategy}
 
@@ -58,7 +58,6 @@ abbrev pub first_standing : Terms → ℕ → Meaning → Standing
 first_standing t tag m =
     record { tag = tag; state = Armed; ledger = first_ledger t; rounds = 0; alarms = 0; row = []; strategy = m.strategy }
 
--- one stake with its count
 abbrev pub shown_slip : OpenSlip → ℕ → ShownSlip
 shown_slip slip count = record { stake = slip; count = count }
 
@@ -137,7 +136,6 @@ pub data Answer : Type 0 where
 abbrev pub answer_outcome : {X : Type 0} → (X → Answer) → Outcome X → Outcome Answer
 answer_outcome of o = outcome (of o.answer) o.after
 
--- what one call answers and leaves
 abbrev pub call_outcome : Terms → Standing → Call → Outcome Answer
 call_outcome t s Stake = answer_outcome OfStake (stake_outcome t s)
 call_outcome t s (Settle slip) = answer_outcome OfSettle (settle_outcome t s slip)
@@ -179,14 +177,14 @@ view meaning m =
     let row = row_in m.phase (length b.nulls) in
     record { tag = m.tag; state = state_of m.phase; ledger = m.ledger; rounds = m.rounds; alarms = m.alarms; row = row; strategy = b.strategy }
 
-abbrev pub seen : {B R : Type 0} → (B → Meaning) → (R → ℕ → ℕ) → Monitor B R → Terms × Standing × B × R
-seen meaning base m = (terms_of meaning base m, view meaning m, m.bettor, m.rule)
+abbrev pub monitor_parts : {B R : Type 0} → (B → Meaning) → (R → ℕ → ℕ) → Monitor B R → Terms × Standing × B × R
+monitor_parts meaning base m = (terms_of meaning base m, view meaning m, m.bettor, m.rule)
 
 -- a monitor just made, or what was handed over, handed back where the threshold is not 1 to 4,096
 abbrev pub new_monitor : {B R : Type 0} → (B → Meaning) → (R → ℕ → ℕ) → B → R → ℕ → ℕ → Result (Terms × Standing × B × R) (Unmade B R)
 new_monitor meaning base bettor rule threshold tag =
     let t = terms (meaning bettor) (base rule) threshold in
-    if from_to 1 4096 threshold then Ok (t, first_standing t tag (meaning bettor), bettor, rule)
+    if from_to 1 most_threshold threshold then Ok (t, first_standing t tag (meaning bettor), bettor, rule)
     else Err (record { fault = Threshold; bettor = bettor; rule = rule })
 
 -- what the contract of each call says: what it answers and leaves are those of the call on plain data

@@ -5,6 +5,10 @@ use Rattle.std.specs.Prelude.{ℕ, ◌≤◌, ◌+◌, ◌^◌, max, if◌then�
 abbrev pub bet : ℕ
 bet = 1048576
 
+-- the largest threshold, in bets
+abbrev pub most_threshold : ℕ
+most_threshold = 4096
+
 -- what every rule keeps: at most one bet is begun anew
 pub record IsRestartRule (base : ℕ → ℕ) : Type 0 where
   pub at_most_a_bet : (m : ℕ) → base m ≤ m + bet

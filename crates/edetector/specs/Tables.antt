@@ -70,7 +70,6 @@ unit_factor = 4096
 abbrev pub IsFair : List ℕ → List ℕ → Type 0
 IsFair ws row = sum_by (λ p. p.0 * p.1) (zip ws row) ≤ unit_factor * sum ws
 
--- weights and factors read as numbers
 abbrev pub weights_in : List Weight → List ℕ
 weights_in ws = map (λ w. w.0) ws
 
@@ -78,5 +77,5 @@ abbrev pub factors_in : List Factor → List ℕ
 factors_in es = map (λ e. e.0) es
 
 -- a row in as many places as a table can have classes: the factors es, and zeros behind them
-abbrev pub padded : List ℕ → List ℕ
-padded es = es ++ replicate (most_classes - length es) 0
+abbrev pub padded_row : List ℕ → List ℕ
+padded_row es = es ++ replicate (most_classes - length es) 0

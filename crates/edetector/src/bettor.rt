@@ -1,6 +1,6 @@
 // A bettor: a null table, and the rows of factors that it plays, whatever it learns.
 ghost use Rattle.std.specs.Prelude.{◌≡◌, ◌≤◌, [], length, slice_index};
-ghost use Rattle.edetector.specs.Tables.{factors_in, padded};
+ghost use Rattle.edetector.specs.Tables.{factors_in, padded_row};
 ghost use Rattle.edetector.specs.Bettors.{Meaning, IsBettor, meaning_after};
 
 use super::units::{Factor, Row, Weight};
@@ -29,7 +29,7 @@ pub trait Bettor {
 
     /// The row now, with zeros behind it.
     fn row(&self) -> Row
-        ensures { factors_in result ≡ padded ((meaning self.now).strategy []) }
+        ensures { factors_in result ≡ padded_row ((meaning self.now).strategy []) }
     {
         array::from_fn(|k| self.factor(k))
     }

@@ -1,6 +1,6 @@
 // The fixed bettor: it plays the likelihood ratios of one alternative, whatever it learns.
 ghost use Rattle.std.specs.Prelude.{◌≡◌, [], length, None};
-ghost use Rattle.edetector.specs.Tables.{factors_in, padded, null_fault, alternative_fault};
+ghost use Rattle.edetector.specs.Tables.{factors_in, padded_row, null_fault, alternative_fault};
 ghost use Rattle.edetector.specs.Bettors.{fixed_meaning};
 
 use super::table::{AlternativeTable, NullTable};
@@ -17,5 +17,5 @@ pub struct Fixed {
     ghost null_unbroken: { null_fault null ≡ None },
     ghost alternative_unbroken: { alternative_fault alternative ≡ None },
     ghost same_classes: { length alternative ≡ length null },
-    ghost played: { factors_in row ≡ padded ((fixed_meaning null alternative).strategy []) },
+    ghost played: { factors_in row ≡ padded_row ((fixed_meaning null alternative).strategy []) },
 }

@@ -28,7 +28,8 @@ impl<F: Bettor, S: Bettor> Model for Mixture<F, S> {
 
     ghost view = { λ m. record { first = m.first; second = m.second } };
 
-    ghost invariant = { λ m. m.same ≡ same_table (F.meaning m.first).nulls (S.meaning m.second).nulls };
+    ghost invariant = { λ m.
+        m.same ≡ same_table (F.meaning m.first).nulls (S.meaning m.second).nulls };
 }
 
 // Whether two bettors have the same null table.
@@ -49,7 +50,7 @@ fn average(f: Factor, g: Factor) -> Factor
 }
 
 // Half the sum of two rows.
-fn averaged(f: Row, g: Row) -> Row
+fn average_row(f: Row, g: Row) -> Row
     ensures { factors_in result ≡ averages (factors_in f) (factors_in g) }
 {
     array::from_fn(|k| average(f[k], g[k]))
@@ -70,8 +71,9 @@ impl<F: Bettor, S: Bettor> Mixture<F, S> {
 
     /// Refused where the two null tables differ.
     pub fn check(&self) -> Result<(), ValueFault>
-        ensures { result ≡ (if same_table (F.meaning self.now.first).nulls (S.meaning self.now.second).nulls
-            then Ok tt else Err NullTables) }
+        ensures { let ws = (F.meaning self.now.first).nulls in
+            let vs = (S.meaning self.now.second).nulls in
+            result ≡ (if same_table ws vs then Ok tt else Err NullTables) }
     {
         if self.same {
             Ok(())
@@ -84,7 +86,8 @@ impl<F: Bettor, S: Bettor> Mixture<F, S> {
 impl<F: Bettor, S: Bettor> Bettor for Mixture<F, S> {
     ghost meaning = { λ m. mixture (F.meaning m.first) (S.meaning m.second) };
 
-    ghost law = { λ m. mixture_law (F.meaning m.first) (S.meaning m.second) (F.law m.first) (S.law m.second) };
+    ghost law = { λ m.
+        mixture_law (F.meaning m.first) (S.meaning m.second) (F.law m.first) (S.law m.second) };
 
     fn classes(&self) -> usize {
         self.first.classes()
@@ -119,7 +122,7 @@ impl<F: Bettor, S: Bettor> Bettor for Mixture<F, S> {
     fn row(&self) -> Row {
         let row = self.first.row();
         if self.same {
-            averaged(row, self.second.row())
+            average_row(row, self.second.row())
         } else {
             row
         }

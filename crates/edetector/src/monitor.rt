@@ -1,6 +1,6 @@
 // What a monitor holds.
 ghost use Rattle.std.specs.Prelude.{◌≡◌, ◌*◌, ◌≤◌, true};
-ghost use Rattle.edetector.specs.Rules.{bet};
+ghost use Rattle.edetector.specs.Rules.{bet, most_threshold};
 ghost use Rattle.edetector.specs.Lemmas.Invariants.{agrees_with_ledger, has_rounds_left};
 ghost use Rattle.edetector.specs.States.{state_of};
 
@@ -23,7 +23,7 @@ pub struct Monitor<B, R> {
     rounds: u32,
     alarms: u32,
     ghost least: { 1 ≤ threshold },
-    ghost most: { threshold ≤ 4096 },
+    ghost most: { threshold ≤ most_threshold },
     ghost rung_by_ledger: { agrees_with_ledger (state_of phase) (threshold * bet) ledger ≡ true },
     ghost fewer: { alarms ≤ rounds },
     ghost rounds_left: { has_rounds_left (state_of phase) rounds ≡ true },

@@ -8,7 +8,8 @@ use super::units::{Factor, Weight};
 // The alternative's share of a class against the null table's: `a` out of `v` to `w` out of `total`, the remainder
 // dropped.
 pub(super) fn likelihood_ratio(total: u32, v: u32, w: Weight, a: Weight) -> Factor
-    requires within { (total ≤ most_total) × ((v ≤ most_total + most_tallied) × (w.0 ≤ most_total)) }
+    requires total { total ≤ most_total }
+    requires within { (v ≤ most_total + most_tallied) × (w.0 ≤ most_total) }
     requires part { a.0 ≤ v }
     requires some { (1 ≤ v) × (1 ≤ w.0) }
     ensures { result.0 ≡ ratio total v w.0 a.0 }

@@ -37,7 +37,8 @@ impl<const LEAST: u32> Model for Table<LEAST> {
 
     ghost invariant = { λ t. IsTable LEAST t.classes t.weights t.total };
 
-    ghost inverse = { λ ws. record { classes = length ws; weights = places_for ws; total = sum ws } };
+    ghost inverse = { λ ws.
+        record { classes = length ws; weights = places_for ws; total = sum ws } };
 
     ghost inverse_ok = { λ t h i. record {
       classes = held_long LEAST t.classes t.weights t.total h i;

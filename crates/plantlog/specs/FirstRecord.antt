@@ -1,5 +1,6 @@
 -- The record at the front of some bytes, or the first condition that refuses it.
 use Rattle.std.specs.Prelude.{ℕ, zero, suc, if◌then◌else◌, List, [], ◌∷◌, length, take, drop, sum, Ok, Err, Result, ◌==◌, nat_le}
+use Rattle.edetector.specs.Rules.{most_threshold}
 use Rattle.edetector.specs.declared.value.ValueFault.TheVariants.{Classes, Weight, Total, Threshold}
 use Rattle.edetector.specs.Tables.{fewest_classes, most_classes, most_weight, most_total, from_to}
 use Rattle.plantlog.specs.declared.fault.RecordFault.{RecordFault}
@@ -41,7 +42,7 @@ table_fields low bs =
 
 unfoldable pub setup_fields : List ℕ → Result Fields RecordFault
 setup_fields bs =
-    and_then (field 1 4096 (Value Threshold) bs)
+    and_then (field 1 most_threshold (Value Threshold) bs)
     (λ a. and_then (field 1 2 UnknownChoice a.1)
     (λ r. and_then (field 1 3 UnknownChoice r.1)
     (λ b. ended (Setup a.0 r.0 b.0) b.1)))

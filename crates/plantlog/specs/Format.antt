@@ -1,5 +1,6 @@
 -- The records of the log and the bytes that say them.
 use Rattle.std.specs.Prelude.{ℕ, if◌then◌else◌, List, [], ◌∷◌, ◌++◌, length, Some, None, Option}
+use Rattle.edetector.specs.Rules.{most_threshold}
 use Rattle.edetector.specs.declared.value.ValueFault.{ValueFault}
 use Rattle.edetector.specs.declared.value.ValueFault.TheVariants.{Threshold}
 use Rattle.edetector.specs.Tables.{from_to, null_fault, alternative_fault}
@@ -63,7 +64,7 @@ of_value (Some f) = Some (Value f)
 abbrev pub fields_fault : Fields → Option RecordFault
 fields_fault (Table ws) = of_value (null_fault ws)
 fields_fault (Setup a r b) =
-    if from_to 1 4096 a
+    if from_to 1 most_threshold a
     then (if from_to 1 2 r then (if from_to 1 3 b then None else Some UnknownChoice) else Some UnknownChoice)
     else Some (Value Threshold)
 fields_fault (Alternative ws) = of_value (alternative_fault ws)

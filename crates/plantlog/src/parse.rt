@@ -7,8 +7,9 @@ ghost use Rattle.plantlog.specs.Views.{parsed_said};
 
 use super::fault::RecordFault;
 use super::field::FieldsLeft;
-use super::record::{BettorChoice, LARGEST_THRESHOLD, Parsed, Record, RuleChoice, Setup};
+use super::record::{BettorChoice, Parsed, Record, RuleChoice, Setup};
 use super::weights::table;
+use edetector::monitor::calls::MOST_THRESHOLD;
 use edetector::value::ValueFault;
 
 #[tactic(auto, unfolding(crate::specs::FirstRecord::setup_fields, crate::specs::FirstRecord::field))]
@@ -16,11 +17,7 @@ fn setup_fields(bytes: &[u8]) -> Result<Parsed, RecordFault>
     ensures { of_ok parsed_said result ≡ setup_fields bytes.now }
 {
     let mut fields = FieldsLeft { bytes };
-    let threshold = fields.within(
-        1,
-        LARGEST_THRESHOLD,
-        RecordFault::Value(ValueFault::Threshold),
-    )?;
+    let threshold = fields.within(1, MOST_THRESHOLD, RecordFault::Value(ValueFault::Threshold))?;
     let rule = RuleChoice::try_from(fields.number()?)?;
     let bettor = BettorChoice::try_from(fields.number()?)?;
     fields.end()?;

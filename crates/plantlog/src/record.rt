@@ -6,8 +6,6 @@ use super::fault::RecordFault;
 use super::judge::JudgedCount;
 use edetector::table::{AlternativeTable, NullTable};
 
-pub(super) const LARGEST_THRESHOLD: u32 = 4096;
-
 // The restart rule that a setup names.
 #[derive(Clone, Copy, Debug, PartialEq, Eq)]
 pub enum RuleChoice {

@@ -9,7 +9,8 @@ ghost use Rattle.plantlog.specs.Written.{fields_judged, SaysTable, Wrote};
 use self::numbers::table_numbers;
 use self::put::{MOST_NUMBERS, put_record};
 use super::fault::RecordFault;
-use super::record::{BettorChoice, Kind, LARGEST_THRESHOLD, RuleChoice};
+use super::record::{BettorChoice, Kind, RuleChoice};
+use edetector::monitor::calls::MOST_THRESHOLD;
 use edetector::table::Table;
 use edetector::units::Weight;
 use edetector::value::ValueFault;
@@ -44,7 +45,7 @@ pub fn write_table(weights: &[Weight], out: &mut [u8]) -> Result<usize, RecordFa
 fn judge_setup(threshold: u32, rule: u32, bettor: u32) -> Result<(), RecordFault>
     ensures { result ≡ fields_judged (InSetup threshold rule bettor) }
 {
-    if !(1..=LARGEST_THRESHOLD).contains(&threshold) {
+    if !(1..=MOST_THRESHOLD).contains(&threshold) {
         return Err(RecordFault::Value(ValueFault::Threshold));
     }
     let _ = RuleChoice::try_from(rule)?;

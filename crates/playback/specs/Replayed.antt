@@ -2,7 +2,7 @@
 use Rattle.std.specs.Prelude.{ℕ, Bool, true, false, if◌then◌else◌, List, [], length, sum, None, Ok, Err, Result, ◌==◌, nat_le}
 use Rattle.edetector.specs.declared.value.ValueFault.TheVariants.{Alternative as UnlikeClasses, Threshold}
 use Rattle.edetector.specs.Tables.{from_to}
-use Rattle.edetector.specs.Rules.{shiryaev_roberts, page}
+use Rattle.edetector.specs.Rules.{most_threshold, shiryaev_roberts, page}
 use Rattle.edetector.specs.Bettors.{Meaning, fixed_meaning, adaptive_meaning, mixture}
 use Rattle.edetector.specs.Monitors.{Terms, terms, first_standing, read_outcome}
 use Rattle.plantlog.specs.declared.fault.RecordFault.TheVariants.{NoneLeft}
@@ -89,7 +89,7 @@ finished ws x t f = record {
 abbrev pub monitored : Places → Setup → Meaning → Stream → Spot → Replay
 monitored p x m rest at =
     let t = terms m (rule_base x.rule) x.threshold in
-    if from_to 1 4096 x.threshold then finished m.nulls x t (watching t p rest at (begun t m)) else no_monitor at (Value Threshold)
+    if from_to 1 most_threshold x.threshold then finished m.nulls x t (watching t p rest at (begun t m)) else no_monitor at (Value Threshold)
 
 -- what the bettor means that a setup names; the adaptive one has no alternative
 abbrev pub meaning_of : BettorChoice → List ℕ → List ℕ → Meaning

@@ -1,7 +1,7 @@
 // How the fixed bettor is made, and what it plays.
 ghost use Rattle.std.specs.Prelude.{◌≡◌, [], length, None, slice_index};
 ghost use Rattle.std.specs.Result.{result_map_both};
-ghost use Rattle.edetector.specs.Tables.{factors_in, padded, null_fault, alternative_fault};
+ghost use Rattle.edetector.specs.Tables.{factors_in, padded_row, null_fault, alternative_fault};
 ghost use Rattle.edetector.specs.Bettors.{fixed_meaning};
 ghost use Rattle.edetector.specs.BettorParts.{tables_of, new_fixed};
 ghost use Rattle.edetector.specs.Lemmas.Ratios.{fixed_law};
@@ -34,7 +34,7 @@ fn ratios_of(null: &NullTable, alternative: &AlternativeTable) -> Row
     requires null { null_fault null.now ≡ None }
     requires alternative { alternative_fault alternative.now ≡ None }
     requires same_classes { length alternative.now ≡ length null.now }
-    ensures { factors_in result ≡ padded ((fixed_meaning null.now alternative.now).strategy []) }
+    ensures { factors_in result ≡ padded_row ((fixed_meaning null.now alternative.now).strategy []) }
 {
     array::from_fn(|k| ratio_at(null, alternative, k))
 }
@@ -59,7 +59,8 @@ impl Fixed {
 impl Bettor for Fixed {
     ghost meaning = { λ b. fixed_meaning b.null b.alternative };
 
-    ghost law = { λ b. fixed_law b.null b.alternative b.null_unbroken b.alternative_unbroken b.same_classes };
+    ghost law = { λ b.
+        fixed_law b.null b.alternative b.null_unbroken b.alternative_unbroken b.same_classes };
 
     fn classes(&self) -> usize {
         self.null.classes()

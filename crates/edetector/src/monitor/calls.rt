@@ -1,7 +1,7 @@
 // How a monitor is made, and its five calls.
 ghost use Rattle.std.specs.Prelude.{◌≡◌, ◌*◌, ◌/◌, ◌≤◌, ◌↔◌, IsTrue, OnErr, IsSome, IfSome};
 ghost use Rattle.edetector.specs.declared.monitor.phase.Phase.TheVariants.{Staked};
-ghost use Rattle.edetector.specs.Monitors.{outcome, is_fitting, stake_outcome, settle_outcome, withdraw_outcome, rearm_outcome, read_outcome, view, terms_of, bettor_of, rule_of, seen, new_monitor, AfterCalls};
+ghost use Rattle.edetector.specs.Monitors.{outcome, is_fitting, stake_outcome, settle_outcome, withdraw_outcome, rearm_outcome, read_outcome, view, terms_of, bettor_of, rule_of, monitor_parts, new_monitor, AfterCalls};
 ghost use Rattle.edetector.specs.Plans.{Bound};
 ghost use Rattle.edetector.specs.Rules.{bet};
 ghost use Rattle.edetector.specs.Tables.{unit_factor};
@@ -18,6 +18,9 @@ use super::super::value::ValueFault;
 use super::super::wealth::{BET, Wealth};
 use super::phase::{Phase, Stake};
 use super::{Monitor, Reading};
+
+/// The largest threshold, in bets.
+pub const MOST_THRESHOLD: u32 = 4096;
 
 // After so many settled rounds a stake is refused.
 const MOST_ROUNDS: u32 = 1000000;
@@ -37,12 +40,12 @@ impl<B: Bettor, R: RestartRule> Monitor<B, R> {
     /// Refused where the threshold is not 1 to 4,096. Whatever the bettor, the rule and the plan of calls, the alarms are
     /// bounded; and after any calls a monitor has answered, and stands, as the calls one by one say.
     pub fn new(bettor: B, rule: R, threshold: u32, tag: u32) -> Result<Monitor<B, R>, Unmade<B, R>>
-        ensures made { result_map_both (seen B.meaning R.base) (λ e. e) result
+        ensures made { result_map_both (monitor_parts B.meaning R.base) (λ e. e) result
             ≡ new_monitor B.meaning R.base bettor rule threshold tag }
         ensures calls { AfterCalls B.meaning R.base }
         ensures bound { Bound (B.meaning bettor) (R.base rule) threshold tag }
     {
-        if !(1..=4096).contains(&threshold) {
+        if !(1..=MOST_THRESHOLD).contains(&threshold) {
             return Err(Unmade {
                 fault: ValueFault::Threshold,
                 bettor,
@@ -66,7 +69,8 @@ impl<B: Bettor, R: RestartRule> Monitor<B, R> {
         ensures does { outcome result (view B.meaning self.new)
             ≡ stake_outcome (terms_of B.meaning R.base self.old) (view B.meaning self.old) }
         ensures same { terms_of B.meaning R.base self.new ≡ terms_of B.meaning R.base self.old }
-        ensures kept { (bettor_of self.new ≡ bettor_of self.old) × (rule_of self.new ≡ rule_of self.old) }
+        ensures bettor { bettor_of self.new ≡ bettor_of self.old }
+        ensures rule { rule_of self.new ≡ rule_of self.old }
         ensures refused { OnErr result (self.new ≡ self.old) }
     {
         let Phase::Armed = self.phase else {
@@ -88,7 +92,7 @@ impl<B: Bettor, R: RestartRule> Monitor<B, R> {
         ensures does { outcome result (view B.meaning self.new)
             ≡ settle_outcome (terms_of B.meaning R.base self.old) (view B.meaning self.old) slip }
         ensures same { terms_of B.meaning R.base self.new ≡ terms_of B.meaning R.base self.old }
-        ensures kept { rule_of self.new ≡ rule_of self.old }
+        ensures rule { rule_of self.new ≡ rule_of self.old }
         ensures refused { OnErr result (self.new ≡ self.old) }
     {
         let k = class_of(self.bettor.classes(), slip.count);
@@ -122,7 +126,8 @@ impl<B: Bettor, R: RestartRule> Monitor<B, R> {
         ensures does { outcome result (view B.meaning self.new)
             ≡ withdraw_outcome (terms_of B.meaning R.base self.old) (view B.meaning self.old) slip }
         ensures same { terms_of B.meaning R.base self.new ≡ terms_of B.meaning R.base self.old }
-        ensures kept { (bettor_of self.new ≡ bettor_of self.old) × (rule_of self.new ≡ rule_of self.old) }
+        ensures bettor { bettor_of self.new ≡ bettor_of self.old }
+        ensures rule { rule_of self.new ≡ rule_of self.old }
         ensures refused { OnErr result (self.new ≡ self.old) }
     {
         if self.stake_for(&slip).is_none() {
@@ -141,7 +146,8 @@ impl<B: Bettor, R: RestartRule> Monitor<B, R> {
         ensures does { outcome result (view B.meaning self.new)
             ≡ rearm_outcome (terms_of B.meaning R.base self.old) (view B.meaning self.old) }
         ensures same { terms_of B.meaning R.base self.new ≡ terms_of B.meaning R.base self.old }
-        ensures kept { (bettor_of self.new ≡ bettor_of self.old) × (rule_of self.new ≡ rule_of self.old) }
+        ensures bettor { bettor_of self.new ≡ bettor_of self.old }
+        ensures rule { rule_of self.new ≡ rule_of self.old }
         ensures refused { OnErr result (self.new ≡ self.old) }
     {
         if let Phase::Staked(_) = self.phase {

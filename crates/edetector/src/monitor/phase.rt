@@ -23,7 +23,8 @@ pub enum Phase {
 impl Stake {
     // The bettor's row now.
     pub(super) fn of<B: Bettor>(bettor: &B) -> Self
-        ensures { take (length (B.meaning bettor.now).nulls) (factors_in result.row) ≡ (B.meaning bettor.now).strategy [] }
+        ensures { let m = B.meaning bettor.now in
+            take (length m.nulls) (factors_in result.row) ≡ m.strategy [] }
     {
         Stake { row: bettor.row() }
     }

@@ -21,10 +21,11 @@ fn total_of(weights: &[Weight]) -> u32
 }
 
 // The weights with zeros behind them.
-fn padded(weights: &[Weight]) -> [Weight; MOST_CLASSES]
+fn padded_weights(weights: &[Weight]) -> [Weight; MOST_CLASSES]
     requires { length weights.now ≤ most_classes }
     ensures front { take (length weights.now) result ≡ weights.now }
-    ensures behind { drop (length weights.now) result ≡ replicate (most_classes - length weights.now) (record { 0 = 0 }) }
+    ensures behind { let n = length weights.now in
+        drop n result ≡ replicate (most_classes - n) (record { 0 = 0 }) }
     ensures room { length result ≡ most_classes }
 {
     let mut held = [Weight(0); MOST_CLASSES];
@@ -34,7 +35,8 @@ fn padded(weights: &[Weight]) -> [Weight; MOST_CLASSES]
 
 impl<const LEAST: u32> Table<LEAST> {
     pub fn new(weights: &[Weight]) -> Result<Self, ValueFault>
-        ensures { let ws = weights_in weights.now in result ≡ unless_fault (table_fault LEAST ws) ws }
+        ensures { let ws = weights_in weights.now in
+            result ≡ unless_fault (table_fault LEAST ws) ws }
     {
         let classes @ FEWEST_CLASSES..=MOST_CLASSES = weights.len() else {
             return Err(ValueFault::Classes);
@@ -47,7 +49,7 @@ impl<const LEAST: u32> Table<LEAST> {
         };
         Ok(Table {
             classes,
-            weights: padded(weights),
+            weights: padded_weights(weights),
             total,
         })
     }

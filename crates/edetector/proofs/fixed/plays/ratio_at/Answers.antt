@@ -15,7 +15,8 @@ likelihood_ratio-requires c =
     let some = weight_some c.args.null.now c.requires.null c.args.class (omega arith) in
     let part = index_le_sum c.args.alternative.now c.args.class in
     record {
-      within = (omega (arith, null.within), (omega (arith, alternative.within), omega arith));
+      total = omega (arith, null.within);
+      within = (omega (arith, alternative.within), omega arith);
       part = omega arith;
       some = (omega (arith, alternative.positive), omega arith);
     }

@@ -1,6 +1,6 @@
 use Rattle.std.proofs.Common.{cond, [], sym, ◌∙◌, ap, ap₂}
 use Rattle.edetector.specs.Bettors.{averages}
-use Rattle.edetector.specs.Tables.{padded}
+use Rattle.edetector.specs.Tables.{padded_row}
 use Rattle.edetector.specs.Lemmas.Mixtures.{level}
 use Rattle.edetector.proofs.Copying.{padded_averages}
 use Rattle.edetector.proofs.mixture.MixtureBettor.row.Goals as goal
@@ -12,6 +12,6 @@ returns-then-self g c =
     let s = g.S.Bettor.meaning m.second in
     let same = sym c.self.invariant ∙ c.if-self.true in
     let level-rows = level f.nulls s.nulls (f.strategy []) (s.strategy []) ((g.met.F.Bettor.law m.first).factors []) ((g.met.S.Bettor.law m.second).factors []) same in
-    rw (← c.self.view_is) (c.averaged.ensures ∙ ap₂ averages c.row-row.ensures c.row.ensures
+    rw (← c.self.view_is) (c.average_row.ensures ∙ ap₂ averages c.row-row.ensures c.row.ensures
     ∙ padded_averages (f.strategy []) (s.strategy []) level-rows
-    ∙ sym (ap (λ b. padded (cond b (averages (f.strategy []) (s.strategy [])) (f.strategy []))) same))
+    ∙ sym (ap (λ b. padded_row (cond b (averages (f.strategy []) (s.strategy [])) (f.strategy []))) same))

@@ -35,19 +35,19 @@ pub invariant_of-result : goal.invariant_of-result
 invariant_of-result g c =
     let given = c.args.weights.now in
     let ws = weights_in given in
-    let same : take (length given) (weights_in c.padded.result) ≡ ws = padded_units given c.padded.result c.padded.ensures.front in
+    let same : take (length given) (weights_in c.padded_weights.result) ≡ ws = padded_units given c.padded_weights.result c.padded_weights.ensures.front in
     let total = units_sum given in
     record {
       unbroken = ap (table_fault g.row.LEAST) same ∙ units_unbroken g.row.LEAST given (omega arith) (omega arith) (c.if-not-all_within.ensures.0 refl) (omega arith) (omega arith);
       sums = ap sum same ∙ sym total ∙ sym c.total_of.ensures;
-      room = c.padded.ensures.room;
+      room = c.padded_weights.ensures.room;
       fits = omega arith;
-      behind = c.padded.ensures.behind;
+      behind = c.padded_weights.ensures.behind;
     }
 
 pub returns : goal.returns
 returns g c =
     let given = c.args.weights.now in
     let ws = weights_in given in
-    ap Ok (padded_units given c.padded.result c.padded.ensures.front)
+    ap Ok (padded_units given c.padded_weights.result c.padded_weights.ensures.front)
     ∙ sym (ap (λ f. unless_fault f ws) (units_unbroken g.row.LEAST given (omega arith) (omega arith) (c.if-not-all_within.ensures.0 refl) (omega arith) (omega arith)))

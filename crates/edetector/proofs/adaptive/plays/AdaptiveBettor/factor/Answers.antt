@@ -15,7 +15,8 @@ likelihood_ratio-requires c =
     let n = count_part b k (omega arith) in
     let some = limits.each k (omega arith) in
     record {
-      within = (omega (arith, limits.within), (omega (arith, limits.within, b.within), omega (arith, limits.within)));
+      total = omega (arith, limits.within);
+      within = (omega (arith, limits.within, b.within), omega (arith, limits.within));
       part = omega arith;
       some = (omega (arith, limits.positive), omega arith);
     }

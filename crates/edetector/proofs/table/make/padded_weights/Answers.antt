@@ -2,7 +2,7 @@ use Rattle.std.proofs.Common.{length, replicate, ap, ◌∙◌, arith, rules}
 use Rattle.std.proofs.lemmas.List.{drop-replicate}
 use Rattle.std.proofs.lemmas.Slice.{drop-append-drop}
 use Rattle.edetector.specs.declared.units.Weight.{Weight}
-use Rattle.edetector.proofs.table.make.padded.Goals as goal
+use Rattle.edetector.proofs.table.make.padded_weights.Goals as goal
 
 pub returns-clause-behind : goal.returns-clause-behind
 returns-clause-behind c =

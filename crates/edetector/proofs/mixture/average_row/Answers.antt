@@ -6,7 +6,7 @@ use Rattle.edetector.specs.Bettors.{averages}
 use Rattle.edetector.specs.Lemmas.Mixtures.{averages_at, averages_long}
 use Rattle.edetector.proofs.Copying.{factor_at}
 use Rattle.edetector.proofs.FromFn.{made_each}
-use Rattle.edetector.proofs.mixture.averaged.Goals as goal
+use Rattle.edetector.proofs.mixture.average_row.Goals as goal
 
 pub returns : goal.returns
 returns c =
