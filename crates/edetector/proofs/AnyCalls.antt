@@ -1,8 +1,8 @@
 -- After any calls of a monitor, by their contracts.
-use Rattle.std.proofs.Common.{◌≡◌, ℕ, List, [], ◌∷◌, refl, ap, sym, ◌∙◌}
+use Rattle.std.proofs.Common.{◌≡◌, ℕ, List, [], ◌∷◌, refl, ap, ◌∙◌}
 use Rattle.edetector.specs.declared.monitor.Monitor.{Monitor}
 use Rattle.edetector.specs.Bettors.{Meaning}
-use Rattle.edetector.specs.Monitors.{Terms, Standing, Outcome, outcome, Call, Stake, Settle, Withdraw, Rearm, Read, Answer, OfStake, OfSettle, OfWithdraw, OfRearm, OfRead, answer_outcome, call_outcome, calls_outcome, view, terms_of, Does, DoesAll, AfterCalls}
+use Rattle.edetector.specs.Monitors.{Outcome, outcome, Call, Stake, Settle, Withdraw, Rearm, Read, Answer, OfStake, OfSettle, OfWithdraw, OfRearm, OfRead, answer_outcome, call_outcome, calls_outcome, view, terms_of, Does, AfterCalls}
 
 module _ {B R : Type 0} (meaning : B → Meaning) (base : R → ℕ → ℕ) where
   one_call : (m n : Monitor B R) (c : Call) (a : Answer) → Does meaning base m c a n → outcome a (view meaning n) ≡ call_outcome (terms_of meaning base m) (view meaning m) c

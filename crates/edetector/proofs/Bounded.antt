@@ -5,7 +5,7 @@ use Rattle.std.specs.List.{sum, count_by}
 use Rattle.std.proofs.lemmas.Bool.Decides.{nat_tests}
 use Rattle.edetector.specs.declared.state.State.{State}
 use Rattle.edetector.specs.declared.state.State.TheVariants.{Armed, Staked, Rung}
-use Rattle.edetector.specs.Tables.{unit_factor, class_of}
+use Rattle.edetector.specs.Tables.{class_of}
 use Rattle.edetector.specs.Rules.{bet, IsRestartRule}
 use Rattle.edetector.specs.Bettors.{Meaning, IsBettor}
 use Rattle.edetector.specs.States.{is_staked}

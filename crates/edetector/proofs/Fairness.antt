@@ -1,10 +1,10 @@
 -- What the calls of a plan keep between settlements: rows that are fair, and a potential that does not grow.
-use Rattle.std.proofs.Common.{◌≡◌, ℕ, ◌+◌, ◌-◌, ◌*◌, ◌≤◌, Bool, true, false, cond, ◌&&◌, eqb, ltb, List, [], ◌∷◌, length, slice_index, Ok, Err, Result, ap, ◌∙◌, le_trans, le_refl, arith}
+use Rattle.std.proofs.Common.{◌≡◌, ℕ, ◌+◌, ◌-◌, ◌*◌, ◌≤◌, Bool, true, false, cond, ◌&&◌, eqb, ltb, List, [], ◌∷◌, length, slice_index, Ok, Err, Result, ap, le_trans, le_refl, arith}
 use Rattle.std.specs.List.{sum}
 use Rattle.std.proofs.lemmas.Bool.{cond_both}
 use Rattle.edetector.specs.declared.state.State.{State}
 use Rattle.edetector.specs.declared.state.State.TheVariants.{Armed, Staked, Rung}
-use Rattle.edetector.specs.declared.fault.MonitorFault.TheVariants.{Misfit, Spent}
+use Rattle.edetector.specs.declared.fault.MonitorFault.TheVariants.{Spent}
 use Rattle.edetector.specs.declared.slip.ShownSlip.{ShownSlip}
 use Rattle.edetector.specs.declared.fault.Refused.{Refused}
 use Rattle.edetector.specs.Tables.{unit_factor, class_of}

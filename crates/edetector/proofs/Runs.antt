@@ -1,15 +1,14 @@
 -- What a plan's run answers, settlement by settlement; and any calls of a monitor by their contracts.
-use Rattle.std.proofs.Common.{◌≡◌, ℕ, ◌+◌, Bool, true, false, cond, ◌&&◌, eqb, List, [], ◌∷◌, ◌++◌, length, Ok, Err, Result, sym, refl, ap, ap₂, ◌∙◌, zero-add, arith}
+use Rattle.std.proofs.Common.{◌≡◌, ℕ, ◌+◌, Bool, true, false, cond, ◌&&◌, eqb, List, [], ◌∷◌, ◌++◌, length, Ok, Result, sym, refl, ap, ap₂, ◌∙◌, zero-add, arith}
 use Rattle.std.specs.List.{count_by}
 use Rattle.std.proofs.lemmas.Bool.{false≢true, cond_both}
 use Rattle.std.proofs.lemmas.Bool.Decides.{nat_tests}
 use Rattle.std.proofs.lemmas.List.Sums.{sum_by-cons, sum_by-append}
-use Rattle.edetector.specs.declared.state.State.TheVariants.{Staked}
 use Rattle.edetector.specs.declared.slip.ShownSlip.{ShownSlip}
 use Rattle.edetector.specs.declared.fault.Refused.{Refused}
 use Rattle.edetector.specs.Tables.{class_of}
 use Rattle.edetector.specs.States.{is_staked}
-use Rattle.edetector.specs.Monitors.{shown_slip, Terms, Standing, Outcome, outcome, next_slip, settle_outcome, after_settle, rings, Call, Stake, Settle, Withdraw, Rearm, Read, Answer, OfStake, OfSettle, OfWithdraw, OfRearm, OfRead, is_round, is_alarm, call_outcome, calls_outcome}
+use Rattle.edetector.specs.Monitors.{shown_slip, Terms, Standing, Outcome, outcome, next_slip, settle_outcome, after_settle, rings, Call, Stake, Settle, Withdraw, Rearm, Read, Answer, OfSettle, is_round, is_alarm, call_outcome, calls_outcome}
 use Rattle.edetector.specs.Plans.{Plan, settles, plan_calls, run_calls}
 use Rattle.edetector.proofs.Fairness.{misfits}
 use Rattle.edetector.proofs.Standings.{handed_back}

@@ -1,5 +1,5 @@
 -- Sums over all sequences of classes.
-use Rattle.std.proofs.Common.{◌≡◌, ℕ, zero, suc, ◌+◌, ◌*◌, List, [], ◌∷◌, ◌++◌, map, length, replicate, get_or, sym, refl, ap, ◌∙◌, add-zero, mul_assoc, mul-zero, mul-add, arith}
+use Rattle.std.proofs.Common.{◌≡◌, ℕ, zero, suc, ◌+◌, ◌*◌, List, [], ◌∷◌, map, length, replicate, get_or, sym, refl, ap, ◌∙◌, add-zero, mul_assoc, mul-zero, mul-add, arith}
 use Rattle.std.specs.List.{flat_map, range_with_len, sum, sum_by}
 use Rattle.std.proofs.lemmas.List.{length-replicate}
 use Rattle.std.proofs.lemmas.List.Sums.{sum_by-cons, sum_by-append}

@@ -1,21 +1,19 @@
 -- The adaptive bettor: what its own facts give at a class, and what one class learned does.
-use Rattle.std.specs.Prelude.{◌≡◌, ℕ, zero, suc, ◌+◌, ◌-◌, ◌*◌, ◌/◌, ◌<◌, ◌≤◌, Bool, true, false, cond, List, [], ◌∷◌, ◌++◌, length, take, replicate, sum, count_by, None, nat_lt, ◌==◌, slice_index, slice_index_or, slice_set, refl}
+use Rattle.std.specs.Prelude.{◌≡◌, ℕ, zero, suc, ◌+◌, ◌-◌, ◌*◌, ◌/◌, ◌<◌, ◌≤◌, Bool, true, false, cond, List, [], ◌∷◌, ◌++◌, length, take, replicate, sum, nat_lt, ◌==◌, slice_index, slice_index_or, slice_set, refl}
 use Rattle.std.proofs.Common.{sym, ap, ap₂, ◌∙◌, append_assoc, append-nil, add-zero, le_of_suc-le-suc, not-suc-le-zero, arith, length-append}
 use mathlib.Core.Path.{fun_ext}
-use Rattle.std.proofs.lemmas.Bool.{cond_both, cond-true, cond-false}
+use Rattle.std.proofs.lemmas.Bool.{cond_both}
 use Rattle.std.proofs.lemmas.Bool.Decides.{nat_tests}
 use Rattle.std.proofs.Math.Seq.{take-set-lt, take-append-add, take-append_seam}
 use Rattle.std.proofs.lemmas.List.{get_or-take, get_or_past, take-replicate, length-replicate, length-take-le, take_all}
 use Rattle.std.proofs.lemmas.List.Sums.{sum_by-cons, sum_by-append, count_by-le-length}
 use Rattle.edetector.specs.declared.adaptive.Adaptive.{Adaptive}
-use Rattle.edetector.specs.Tables.{most_classes}
 use Rattle.edetector.specs.Bettors.{Meaning, Strategy, meaning_after, ratio, ratios, most_tallied, times, tally_with, tallied_weights, adaptive_row, adaptive_meaning}
 use Rattle.edetector.specs.BettorParts.{classes_counted, tally_of, tally_after}
 use Rattle.edetector.specs.Lemmas.Limits.{TableLimits, table_limits}
 use Rattle.edetector.specs.Lemmas.Sums.{sum_cons}
 use Rattle.edetector.specs.Lemmas.Ratios.{ratios_long}
 use Rattle.edetector.specs.Lemmas.Tallies.{tallied_from, tallied_long, SameCounts}
-use Rattle.edetector.proofs.Lists.{index_le_sum}
 use Rattle.edetector.proofs.RatiosAt.{ratios_at, tallied_at}
 
 times_cons : (k c : ℕ) (tally : List ℕ) → times k (c ∷ tally) ≡ cond (c == k) 1 0 + times k tally

@@ -1,5 +1,5 @@
 -- What a bettor means: a null table, and what it plays after whatever it learns. Every division drops its remainder.
-use Rattle.std.specs.Prelude.{◌≡◌, ℕ, ◌+◌, ◌*◌, ◌/◌, Bool, if◌then◌else◌, ◌&&◌, List, [], ◌∷◌, ◌++◌, map, length, take, sum, count_by, None, ◌==◌, nat_lt}
+use Rattle.std.specs.Prelude.{◌≡◌, ℕ, ◌+◌, ◌*◌, ◌/◌, Bool, if◌then◌else◌, ◌&&◌, List, ◌∷◌, ◌++◌, map, length, take, sum, count_by, None, ◌==◌, nat_lt}
 use Rattle.std.specs.List.{zip, range_with_len, common_prefix_len}
 use Rattle.edetector.specs.Tables.{null_fault, unit_factor, IsFair}
 

@@ -1,5 +1,5 @@
 -- What a monitor is doing, and the row that it keeps meanwhile.
-use Rattle.std.specs.Prelude.{ℕ, Bool, true, false, List, [], length, take}
+use Rattle.std.specs.Prelude.{ℕ, Bool, true, false, List, [], take}
 use Rattle.edetector.specs.declared.state.State.{State}
 use Rattle.edetector.specs.declared.state.State.TheVariants as state
 use Rattle.edetector.specs.declared.monitor.phase.Phase.{Phase}

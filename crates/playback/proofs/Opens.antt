@@ -1,5 +1,5 @@
 -- The header on plain data.
-use Rattle.std.proofs.Common.{◌≡◌, ℕ, true, List, [], length, Ok, Err, Result, sym, refl, ap, ◌∙◌, ap₂}
+use Rattle.std.proofs.Common.{◌≡◌, ℕ, true, List, [], Ok, Err, Result, sym, refl, ap, ◌∙◌}
 use Rattle.edetector.specs.Bettors.{Meaning, adaptive_meaning}
 use Rattle.plantlog.specs.declared.record.BettorChoice.TheVariants.{Adaptive}
 use Rattle.plantlog.specs.declared.record.Setup.{Setup}

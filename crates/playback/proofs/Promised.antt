@@ -1,8 +1,8 @@
 -- The bound of the plan of a replay is that of every plan: by the laws of the rules and of the bettors.
-use Rattle.std.specs.Prelude.{◌≡◌, ℕ, ◌+◌, ◌^◌, ◌≤◌, max, List, [], nat_lt, refl}
+use Rattle.std.specs.Prelude.{ℕ, ◌+◌, ◌^◌, ◌≤◌, max, List, [], nat_lt, refl}
 use Rattle.std.proofs.Common.{arith}
 use Rattle.std.proofs.lemmas.Bool.{cond_both}
-use Rattle.edetector.specs.Rules.{bet, IsRestartRule}
+use Rattle.edetector.specs.Rules.{bet}
 use Rattle.edetector.specs.Bettors.{IsBettor, fixed_meaning, adaptive_meaning}
 use Rattle.edetector.specs.Monitors.{terms, first_standing}
 use Rattle.edetector.specs.Lemmas.Mixtures.{mixture_law}

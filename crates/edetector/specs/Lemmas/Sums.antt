@@ -1,5 +1,5 @@
 -- Sums over the classes of a table.
-use Rattle.std.specs.Prelude.{◌≡◌, ℕ, zero, suc, ◌+◌, ◌*◌, ◌≤◌, List, [], ◌∷◌, length, sum, sum_by, zip, slice_index, refl}
+use Rattle.std.specs.Prelude.{◌≡◌, ℕ, suc, ◌+◌, ◌*◌, ◌≤◌, List, [], ◌∷◌, length, sum, sum_by, zip, slice_index, refl}
 use Rattle.std.proofs.Common.{sym, ap, ◌∙◌, add-zero, mul-add, mul_left_comm, mul-zero, mul-le-mul_left, arith}
 use Rattle.std.proofs.lemmas.List.Sums.{sum_by-cons}
 use Rattle.edetector.specs.Tables.{unit_factor, IsFair}

@@ -1,12 +1,12 @@
 -- What an adaptive bettor keeps, whatever it has tallied.
-use Rattle.std.specs.Prelude.{◌≡◌, ℕ, zero, suc, ◌+◌, ◌<◌, ◌≤◌, Bool, true, false, cond, List, [], ◌∷◌, map, length, sum, sum_by, count_by, None, zip, ◌==◌, refl}
+use Rattle.std.specs.Prelude.{◌≡◌, ℕ, zero, suc, ◌+◌, ◌<◌, ◌≤◌, false, cond, List, [], ◌∷◌, map, length, sum, sum_by, None, zip, ◌==◌, refl}
 use Rattle.std.specs.List.{range_with_len}
-use Rattle.std.proofs.Common.{sym, ap, ◌∙◌, arith}
+use Rattle.std.proofs.Common.{ap, arith}
 use Rattle.std.proofs.lemmas.Bool.{cond_both}
 use Rattle.std.proofs.lemmas.Bool.Decides.{nat_tests}
 use Rattle.std.proofs.lemmas.List.Sums.{sum_by-cons}
 use Rattle.edetector.specs.Tables.{null_fault}
-use Rattle.edetector.specs.Bettors.{IsBettor, times, tallied_weights, tally_with, adaptive_row, adaptive_meaning}
+use Rattle.edetector.specs.Bettors.{IsBettor, times, tallied_weights, tally_with, adaptive_meaning}
 use Rattle.edetector.specs.Lemmas.Limits.{table_limits}
 use Rattle.edetector.specs.Lemmas.Ratios.{ratios_long, ratios_fair}
 use Rattle.edetector.specs.Lemmas.Sums.{sum_cons}

@@ -1,4 +1,4 @@
-use Rattle.std.proofs.Common.{length, ap, arith}
+use Rattle.std.proofs.Common.{arith}
 use Rattle.edetector.proofs.mixture.MixtureBettor.learn.Goals as goal
 
 pub returns-then-class-classes : goal.returns-then-class-classes

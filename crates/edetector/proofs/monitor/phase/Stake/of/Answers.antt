@@ -1,7 +1,6 @@
 -- A fair row of as many factors as there are classes has only small ones.
-use Rattle.std.proofs.Common.{◌≡◌, ℕ, ◌≤◌, [], get_or, ap, ◌∙◌, arith}
+use Rattle.std.proofs.Common.{◌≡◌, [], get_or, ap, ◌∙◌, arith}
 use Rattle.edetector.specs.Tables.{factors_in}
-use Rattle.edetector.specs.Lemmas.Limits.{most_factor}
 use Rattle.edetector.proofs.Copying.{padded_at}
 use Rattle.edetector.proofs.Rows.{small_row, row_copied}
 use Rattle.edetector.proofs.monitor.phase.Stake.of.Goals as goal
