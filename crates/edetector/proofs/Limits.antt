@@ -35,16 +35,14 @@ module _ (low : ℕ) (ws : List ℕ) where
   weight_broken some few k h out = weights_broken some few (one_outside low ws k h (outside low most_weight (slice_index ws k) out))
 
   module _ (some : fewest_classes ≤ length ws) (few : length ws ≤ most_classes) (each : (j : ℕ) → j < length ws → (low ≤ slice_index ws j) × (slice_index ws j ≤ most_weight)) where
-    pub total_broken : (sum ws < 1) ⊎ (most_total < sum ws) → table_fault low ws ≡ Some Total
+    pub total_broken : from_to 1 most_total (sum ws) ≡ false → table_fault low ws ≡ Some Total
     total_broken out =
         let a = inside fewest_classes most_classes (length ws) some few in
         let b = all_within low ws each in
-        let d = outside 1 most_total (sum ws) out in
-        rw (a, b, d) refl
+        rw (a, b, out) refl
 
-    pub unbroken : 1 ≤ sum ws → sum ws ≤ most_total → table_fault low ws ≡ None
-    unbroken heavy light =
+    pub unbroken : from_to 1 most_total (sum ws) ≡ true → table_fault low ws ≡ None
+    unbroken whole =
         let a = inside fewest_classes most_classes (length ws) some few in
         let b = all_within low ws each in
-        let d = inside 1 most_total (sum ws) heavy light in
-        rw (a, b, d) refl
+        rw (a, b, whole) refl

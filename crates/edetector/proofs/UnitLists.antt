@@ -1,14 +1,15 @@
 -- The weights of a lent slice, tested, added up and copied.
-use Rattle.std.specs.Prelude.{◌≡◌, ℕ, ◌+◌, ◌*◌, ◌<◌, ◌≤◌, true, false, List, [], ◌∷◌, All, None, length, take, sum, sum_by, slice_index, slice_index_or, refl}
+use Rattle.std.specs.Prelude.{◌≡◌, ℕ, ◌+◌, ◌*◌, ◌<◌, ◌≤◌, true, false, List, [], ◌∷◌, All, Some, None, length, take, sum, sum_by, slice_index, slice_index_or, refl}
 use Rattle.std.proofs.Common.{sym, ap, ◌∙◌, arith}
 use Rattle.std.proofs.lemmas.List.{length-map, take-map}
 use Rattle.std.proofs.lemmas.List.Elements.{All-from_get_or}
 use Rattle.std.proofs.lemmas.List.Sums.{sum_by-le, sum_by-cons}
 use Rattle.edetector.specs.declared.units.Weight.{Weight}
-use Rattle.edetector.specs.Tables.{weights_in, fewest_classes, most_classes, most_weight, most_total, weights_within, table_fault}
+use Rattle.edetector.specs.declared.value.ValueFault.TheVariants.{Total}
+use Rattle.edetector.specs.Tables.{weights_in, fewest_classes, most_classes, most_weight, most_total, from_to, weights_within, table_fault}
 use Rattle.edetector.specs.Lemmas.Limits.{each_within}
 use Rattle.edetector.specs.Lemmas.Sums.{sum_cons}
-use Rattle.edetector.proofs.Limits.{unbroken}
+use Rattle.edetector.proofs.Limits.{total_broken, unbroken}
 use Rattle.edetector.proofs.Lists.{number_at}
 
 -- a weight within its limits
@@ -41,11 +42,20 @@ units_light low xs few all =
     let most : sum_by (λ w. w.0) xs ≤ length xs * most_weight = sum_by-le (λ w. w.0) most_weight xs (λ k d h. (all k d h).1) in
     omega (arith, most, few)
 
-pub units_unbroken : (low : ℕ) (xs : List Weight) → fewest_classes ≤ length xs → length xs ≤ most_classes → All (λ w. Within low w.0) xs → 1 ≤ sum_by (λ w. w.0) xs → sum_by (λ w. w.0) xs ≤ most_total → table_fault low (weights_in xs) ≡ None
-units_unbroken low xs some few all heavy light =
-    let long = length-map xs (λ w. w.0) in
-    let whole = units_sum xs in
-    unbroken low (weights_in xs) (omega (arith, long)) (omega (arith, long)) (λ k h. units_each low xs all k (omega (arith, h, long))) (omega arith) (omega arith)
+-- the total judged, of weights that keep the other limits
+module _ (low : ℕ) (xs : List Weight) (some : fewest_classes ≤ length xs) (few : length xs ≤ most_classes) (all : All (λ w. Within low w.0) xs) (total : ℕ) (is : total ≡ sum_by (λ w. w.0) xs) where
+  total_is : sum (weights_in xs) ≡ total
+  total_is = sym (is ∙ units_sum xs)
+
+  pub units_broken : from_to 1 most_total total ≡ false → table_fault low (weights_in xs) ≡ Some Total
+  units_broken out =
+      let long = length-map xs (λ w. w.0) in
+      total_broken low (weights_in xs) (omega (arith, long)) (omega (arith, long)) (λ k h. units_each low xs all k (omega (arith, h, long))) (ap (from_to 1 most_total) total_is ∙ out)
+
+  pub units_unbroken : from_to 1 most_total total ≡ true → table_fault low (weights_in xs) ≡ None
+  units_unbroken within =
+      let long = length-map xs (λ w. w.0) in
+      unbroken low (weights_in xs) (omega (arith, long)) (omega (arith, long)) (λ k h. units_each low xs all k (omega (arith, h, long))) (ap (from_to 1 most_total) total_is ∙ within)
 
 -- the weights copied to the front of an array
 module _ (ws held : List Weight) (front : take (length ws) held ≡ ws) where

@@ -38,8 +38,10 @@ impl Wealth {
         }
     }
 
+    /// At most 2^49.
     pub fn parts(self) -> u64
-        ensures { result ≡ self }
+        ensures value { result ≡ self }
+        ensures within { self ≤ most_parts }
     {
         self.parts
     }

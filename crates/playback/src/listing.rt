@@ -30,7 +30,8 @@ impl From<Run> for MonitorLine {
 }
 
 fn put_monitor(out: &mut String, report: &Result<Run, Fault>) -> Result<(), AllocError>
-    ensures { OnOk result (string_bytes out.new ≡ string_bytes out.old ++ monitor_part report.now) }
+    ensures { OnOk result
+        (string_bytes out.new ≡ string_bytes out.old ++ monitor_part report.now) }
 {
     match *report {
         Err(_) => Ok(()),
@@ -52,7 +53,8 @@ impl From<Fault> for FaultLine {
 }
 
 fn put_end(out: &mut String, run: Run, unwatched: usize) -> Result<(), AllocError>
-    ensures { OnOk result (string_bytes out.new ≡ string_bytes out.old ++ last_part (Ok run) unwatched) }
+    ensures { OnOk result
+        (string_bytes out.new ≡ string_bytes out.old ++ last_part (Ok run) unwatched) }
 {
     match run.fault {
         Some(fault) => put_line(out, FaultLine::from(fault)),
@@ -72,7 +74,8 @@ fn put_last(
     report: &Result<Run, Fault>,
     unwatched: usize,
 ) -> Result<(), AllocError>
-    ensures { OnOk result (string_bytes out.new ≡ string_bytes out.old ++ last_part report.now unwatched) }
+    ensures { OnOk result
+        (string_bytes out.new ≡ string_bytes out.old ++ last_part report.now unwatched) }
 {
     match *report {
         Err(fault) => put_line(out, FaultLine::from(fault)),
@@ -86,7 +89,8 @@ pub fn listing(
     alarms: &[Alarm],
     unwatched: &[Unwatched],
 ) -> Result<String, AllocError>
-    ensures { IfOk result (λ s. string_bytes s ≡ listing_of (record { said = report.now; alarms = alarms.now; unwatched = unwatched.now })) }
+    ensures { IfOk result (λ s. string_bytes s ≡ listing_of
+        (record { said = report.now; alarms = alarms.now; unwatched = unwatched.now })) }
 {
     let mut out = String::new(alloc);
     put_monitor(&mut out, report)?;

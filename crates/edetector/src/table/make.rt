@@ -44,9 +44,10 @@ impl<const LEAST: u32> Table<LEAST> {
         if !all_within(weights, LEAST) {
             return Err(ValueFault::Weight);
         }
-        let total @ 1..=MOST_TOTAL = total_of(weights) else {
+        let total = total_of(weights);
+        if !(1..=MOST_TOTAL).contains(&total) {
             return Err(ValueFault::Total);
-        };
+        }
         Ok(Table {
             classes,
             weights: padded_weights(weights),

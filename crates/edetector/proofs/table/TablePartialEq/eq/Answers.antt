@@ -1,4 +1,4 @@
--- The fields are read in another order than the derive compares them.
+-- The fields are those that `inverse` gives, and are compared in another order than they are declared in.
 use Rattle.std.proofs.Common.{refl}
 use Rattle.edetector.proofs.HeldEqual.{is_held, last_first}
 use Rattle.edetector.proofs.table.TablePartialEq.eq.Goals as goal
