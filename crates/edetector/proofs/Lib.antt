@@ -8,7 +8,6 @@ pub mod HeldEqual
 pub mod Limits
 pub mod Lists
 pub mod MixedReads
-pub mod Ratios
 pub mod RatiosAt
 pub mod Rows
 pub mod Runs

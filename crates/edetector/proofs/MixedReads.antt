@@ -10,9 +10,6 @@ module _ (ws vs f g : List ℕ) (long-f : length f ≡ length ws) (long-g : leng
   pub mixed_at : (k : ℕ) → same_table ws vs ≡ true → slice_index (mixed_row ws vs f g) k ≡ (slice_index f k + slice_index g k) / 2
   mixed_at k h = ap (λ b. slice_index (cond b (averages f g) f) k) h ∙ averages_at f g (level ws vs f g long-f long-g h) k
 
-  pub mixed_first : (k : ℕ) → same_table ws vs ≡ false → slice_index (mixed_row ws vs f g) k ≡ slice_index f k
-  mixed_first k h = ap (λ b. slice_index (cond b (averages f g) f) k) h
-
 -- the meaning once k, which is a class, is learned
 abbrev after : Meaning → ℕ → Meaning
 after m k = record m { strategy = λ later. m.strategy (k ∷ later) }
