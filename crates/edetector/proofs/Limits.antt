@@ -1,6 +1,6 @@
 -- When a table breaks which limit.
-use Rattle.std.specs.Prelude.{◌≡◌, ℕ, suc, ◌<◌, ◌≤◌, true, false, ◌⊎◌, List, [], ◌∷◌, length, sum, Some, None, slice_index, refl}
-use Rattle.std.proofs.Common.{inl, inr, arith}
+use Rattle.std.specs.Prelude.{◌≡◌, ℕ, suc, ◌<◌, ◌≤◌, true, false, List, [], ◌∷◌, length, sum, Some, None, slice_index, refl}
+use Rattle.std.proofs.Common.{arith}
 use Rattle.std.proofs.lemmas.Bool.Decides.{nat_tests}
 use Rattle.std.proofs.lemmas.Bool.{and_from}
 use Rattle.edetector.specs.declared.value.ValueFault.TheVariants.{Weight, Total}
@@ -8,10 +8,6 @@ use Rattle.edetector.specs.Tables.{fewest_classes, most_classes, most_weight, mo
 
 pub inside : (low high n : ℕ) → low ≤ n → n ≤ high → from_to low high n ≡ true
 inside low high n h l = grind (arith, nat_tests)
-
-pub outside : (low high n : ℕ) → (n < low) ⊎ (high < n) → from_to low high n ≡ false
-outside low high n (inl h) = grind (arith, nat_tests)
-outside low high n (inr h) = grind (arith, nat_tests)
 
 pub all_within : (low : ℕ) (ws : List ℕ) → ((j : ℕ) → j < length ws → (low ≤ slice_index ws j) × (slice_index ws j ≤ most_weight)) → weights_within low ws ≡ true
 all_within low [] h = refl
