@@ -20,6 +20,10 @@ impl OpenSlip {
     pub fn show(self, count: u32) -> ShownSlip
         ensures { result ≡ shown_slip self count }
     {
-        ShownSlip { stake: self, count }
+        let OpenSlip { tag, number } = self;
+        ShownSlip {
+            stake: OpenSlip { tag, number },
+            count,
+        }
     }
 }
