@@ -187,20 +187,16 @@ new_monitor meaning base bettor rule threshold tag =
     if from_to 1 most_threshold threshold then Ok (t, first_standing t tag (meaning bettor), bettor, rule)
     else Err (record { fault = Threshold; bettor = bettor; rule = rule })
 
--- what the contract of each call says: what it answers and leaves are those of the call on plain data
+-- what a call does by its contract: it answers a, and leaves n, as on plain data; what the monitor is made of stays
 abbrev pub Does : {B R : Type 0} → (B → Meaning) → (R → ℕ → ℕ) → Monitor B R → Call → Answer → Monitor B R → Type 0
-Does meaning base m Stake (OfStake r) n = outcome r (view meaning n) ≡ stake_outcome (terms_of meaning base m) (view meaning m)
-Does meaning base m (Settle slip) (OfSettle r) n = outcome r (view meaning n) ≡ settle_outcome (terms_of meaning base m) (view meaning m) slip
-Does meaning base m (Withdraw slip) (OfWithdraw r) n = outcome r (view meaning n) ≡ withdraw_outcome (terms_of meaning base m) (view meaning m) slip
-Does meaning base m Rearm (OfRearm r) n = outcome r (view meaning n) ≡ rearm_outcome (terms_of meaning base m) (view meaning m)
-Does meaning base m Read (OfRead r) n = outcome r (view meaning n) ≡ read_outcome (terms_of meaning base m) (view meaning m)
-Does meaning base m _ _ n = ⊥
+Does meaning base m c a n =
+    (outcome a (view meaning n) ≡ call_outcome (terms_of meaning base m) (view meaning m) c) × (terms_of meaning base n ≡ terms_of meaning base m)
 
 -- calls of one monitor, one after the other, each as its contract says
 abbrev pub DoesAll : {B R : Type 0} → (B → Meaning) → (R → ℕ → ℕ) → Monitor B R → List Call → List Answer → Monitor B R → Type 0
 DoesAll meaning base m [] [] n = n ≡ m
 DoesAll {B} {R} meaning base m (c ∷ cs) (a ∷ rest) n =
-    (between : Monitor B R) × (Does meaning base m c a between × (terms_of meaning base between ≡ terms_of meaning base m)) × DoesAll meaning base between cs rest n
+    (between : Monitor B R) × Does meaning base m c a between × DoesAll meaning base between cs rest n
 DoesAll meaning base m _ _ n = ⊥
 
 -- after any calls, with whatever slips, a monitor has answered, and stands, as the calls on plain data say

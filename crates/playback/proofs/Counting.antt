@@ -7,8 +7,9 @@ use Rattle.edetector.specs.declared.slip.OpenSlip.{OpenSlip}
 use Rattle.edetector.specs.declared.fault.MonitorFault.{MonitorFault}
 use Rattle.edetector.specs.declared.fault.MonitorFault.TheVariants.{Spent}
 use Rattle.edetector.specs.Tables.{class_of}
+use Rattle.edetector.specs.declared.monitor.Reading.{Reading}
 use Rattle.edetector.specs.Bettors.{Strategy}
-use Rattle.edetector.specs.Monitors.{Terms, Standing, outcome, rings, after_settle}
+use Rattle.edetector.specs.Monitors.{Terms, Standing, Answer, OfRead, outcome, rings, after_settle}
 use Rattle.edetector.proofs.Standings.{after_stake, standing}
 use Rattle.playback.specs.declared.stop.ReplayFault.{ReplayFault}
 use Rattle.daybook.specs.declared.entry.unwatched.Unwatched.{Unwatched}
@@ -16,6 +17,10 @@ use Rattle.daybook.specs.Books.{all_used, above}
 use Rattle.daybook.specs.declared.entry.alarm.Alarm.{Alarm}
 use Rattle.playback.specs.Rest.{Rest, behind_count, moved_if}
 use Rattle.playback.specs.Watch.{Watch, Places, done, round_done, watched_count, round, round_of, settled_slip, shown, watched, count_read}
+
+-- the reading that an answer is of
+pub reading_of : (r r' : Reading) → ◌≡◌ {A = Answer} (OfRead r) (OfRead r') → r ≡ r'
+reading_of r r' e = cc
 
 -- a refusal differs from a taken round
 refused_not_taken : (f : ReplayFault) (s s' : Standing) (ents ents' : List Alarm) → round (Err f) s ents ≡ round (Ok tt) s' ents' → ⊥

@@ -1,7 +1,7 @@
 // How a monitor is made, and its five calls.
 ghost use Rattle.std.specs.Prelude.{◌≡◌, ◌*◌, ◌/◌, ◌≤◌, ◌↔◌, IsTrue, OnErr, IsSome, IfSome};
 ghost use Rattle.edetector.specs.declared.monitor.phase.Phase.TheVariants.{Staked};
-ghost use Rattle.edetector.specs.Monitors.{outcome, is_fitting, stake_outcome, settle_outcome, withdraw_outcome, rearm_outcome, read_outcome, view, terms_of, bettor_of, rule_of, monitor_parts, new_monitor, AfterCalls};
+ghost use Rattle.edetector.specs.Monitors.{is_fitting, Stake, Settle, Withdraw, Rearm, Read, OfStake, OfSettle, OfWithdraw, OfRearm, OfRead, Does, view, bettor_of, rule_of, monitor_parts, new_monitor, AfterCalls};
 ghost use Rattle.edetector.specs.Plans.{Bound};
 ghost use Rattle.edetector.specs.Rules.{bet};
 ghost use Rattle.edetector.specs.Tables.{unit_factor};
@@ -16,7 +16,7 @@ use super::super::table::reads::class_of;
 use super::super::units::{Base, Factor};
 use super::super::value::ValueFault;
 use super::super::wealth::{BET, Wealth};
-use super::phase::{Phase, Stake};
+use super::phase::{Phase, StakedRow};
 use super::{Monitor, Reading};
 
 /// The largest threshold, in bets.
@@ -66,9 +66,7 @@ impl<B: Bettor, R: RestartRule> Monitor<B, R> {
 
     /// Copies the row now, before any count is seen. Refused while staked or rung, and after 1,000,000 settled rounds.
     pub fn stake(&mut self) -> Result<OpenSlip, MonitorFault>
-        ensures does { outcome result (view B.meaning self.new)
-            ≡ stake_outcome (terms_of B.meaning R.base self.old) (view B.meaning self.old) }
-        ensures same { terms_of B.meaning R.base self.new ≡ terms_of B.meaning R.base self.old }
+        ensures does { Does B.meaning R.base self.old Stake (OfStake result) self.new }
         ensures bettor { bettor_of self.new ≡ bettor_of self.old }
         ensures rule { rule_of self.new ≡ rule_of self.old }
         ensures refused { OnErr result (self.new ≡ self.old) }
@@ -79,7 +77,7 @@ impl<B: Bettor, R: RestartRule> Monitor<B, R> {
         if self.rounds >= MOST_ROUNDS {
             return Err(MonitorFault::Spent);
         }
-        self.phase = Phase::Staked(Stake::of(&self.bettor));
+        self.phase = Phase::Staked(StakedRow::of(&self.bettor));
         Ok(OpenSlip {
             tag: self.tag,
             number: self.rounds + 1,
@@ -89,9 +87,7 @@ impl<B: Bettor, R: RestartRule> Monitor<B, R> {
     /// Answers whether it rang. A slip that does not fit is handed back.
     // The staked factor is read before the bettor learns the class.
     pub fn settle(&mut self, slip: ShownSlip) -> Result<bool, Refused<ShownSlip>>
-        ensures does { outcome result (view B.meaning self.new)
-            ≡ settle_outcome (terms_of B.meaning R.base self.old) (view B.meaning self.old) slip }
-        ensures same { terms_of B.meaning R.base self.new ≡ terms_of B.meaning R.base self.old }
+        ensures does { Does B.meaning R.base self.old (Settle slip) (OfSettle result) self.new }
         ensures rule { rule_of self.new ≡ rule_of self.old }
         ensures refused { OnErr result (self.new ≡ self.old) }
     {
@@ -123,9 +119,7 @@ impl<B: Bettor, R: RestartRule> Monitor<B, R> {
 
     /// Takes a stake back that was shown no count. A slip that does not fit is handed back.
     pub fn withdraw(&mut self, slip: OpenSlip) -> Result<(), Refused<OpenSlip>>
-        ensures does { outcome result (view B.meaning self.new)
-            ≡ withdraw_outcome (terms_of B.meaning R.base self.old) (view B.meaning self.old) slip }
-        ensures same { terms_of B.meaning R.base self.new ≡ terms_of B.meaning R.base self.old }
+        ensures does { Does B.meaning R.base self.old (Withdraw slip) (OfWithdraw result) self.new }
         ensures bettor { bettor_of self.new ≡ bettor_of self.old }
         ensures rule { rule_of self.new ≡ rule_of self.old }
         ensures refused { OnErr result (self.new ≡ self.old) }
@@ -143,9 +137,7 @@ impl<B: Bettor, R: RestartRule> Monitor<B, R> {
 
     /// Refused while staked.
     pub fn rearm(&mut self) -> Result<(), MonitorFault>
-        ensures does { outcome result (view B.meaning self.new)
-            ≡ rearm_outcome (terms_of B.meaning R.base self.old) (view B.meaning self.old) }
-        ensures same { terms_of B.meaning R.base self.new ≡ terms_of B.meaning R.base self.old }
+        ensures does { Does B.meaning R.base self.old Rearm (OfRearm result) self.new }
         ensures bettor { bettor_of self.new ≡ bettor_of self.old }
         ensures rule { rule_of self.new ≡ rule_of self.old }
         ensures refused { OnErr result (self.new ≡ self.old) }
@@ -160,8 +152,7 @@ impl<B: Bettor, R: RestartRule> Monitor<B, R> {
 
     /// Changes nothing.
     pub fn read(&self) -> Reading
-        ensures { outcome result (view B.meaning self.now)
-            ≡ read_outcome (terms_of B.meaning R.base self.now) (view B.meaning self.now) }
+        ensures { Does B.meaning R.base self.now Read (OfRead result) self.now }
     {
         Reading {
             state: self.phase.state(),
@@ -172,7 +163,7 @@ impl<B: Bettor, R: RestartRule> Monitor<B, R> {
     }
 
     // The stake that a slip belongs to, if it is out.
-    fn stake_for(&self, slip: &OpenSlip) -> Option<&Stake>
+    fn stake_for(&self, slip: &OpenSlip) -> Option<&StakedRow>
         ensures fits { IsSome result ↔ IsTrue (is_fitting (view B.meaning self.now) slip.now) }
         ensures staked { IfSome result (λ stake. self.now.phase ≡ Staked stake.now) }
     {

@@ -8,7 +8,7 @@ use super::super::state::State;
 use super::super::units::{Factor, Row};
 
 #[derive(Drop)]
-pub struct Stake {
+pub struct StakedRow {
     pub(super) row: Row,
     ghost small: { (k : ℕ) → slice_index (factors_in row) k ≤ most_factor },
 }
@@ -16,17 +16,17 @@ pub struct Stake {
 #[derive(Drop)]
 pub enum Phase {
     Armed,
-    Staked(Stake),
+    Staked(StakedRow),
     Rung,
 }
 
-impl Stake {
+impl StakedRow {
     // The bettor's row now.
     pub(super) fn of<B: Bettor>(bettor: &B) -> Self
         ensures { let m = B.meaning bettor.now in
             take (length m.nulls) (factors_in result.row) ≡ m.strategy [] }
     {
-        Stake { row: bettor.row() }
+        StakedRow { row: bettor.row() }
     }
 
     #[tactic(auto, using(crate::proofs::Copying::factor_at))]

@@ -3,7 +3,7 @@ use Rattle.std.proofs.Common.{◌≡◌, [], get_or, ap, ◌∙◌, arith}
 use Rattle.edetector.specs.Tables.{factors_in}
 use Rattle.edetector.proofs.Copying.{padded_at}
 use Rattle.edetector.proofs.Rows.{small_row, row_copied}
-use Rattle.edetector.proofs.monitor.phase.Stake.of.Goals as goal
+use Rattle.edetector.proofs.monitor.phase.StakedRow.of.Goals as goal
 
 pub invariant_of-result : goal.invariant_of-result
 invariant_of-result g c =
