@@ -3,7 +3,7 @@ use Rattle.std.specs.Prelude.{◌≡◌, ℕ, ◌+◌, ◌/◌, ◌<◌, ◌≤�
 use Rattle.std.proofs.Common.{sym, ap, ◌∙◌, arith, ⊎_elim}
 use Rattle.std.proofs.lemmas.Bool.{cases_lt, cond-false, cond-true, cond_both}
 use Rattle.std.proofs.lemmas.Bool.Decides.{nat_tests}
-use Rattle.edetector.specs.Bettors.{Meaning, meaning_after, same_table, averages, mixed_row, mixture}
+use Rattle.edetector.specs.Bettors.{Meaning, meaning_after, same_table, averages, mixed_row, mixture_meaning}
 use Rattle.edetector.specs.Lemmas.Mixtures.{same_from, averages_at, level}
 
 module _ (ws vs f g : List ℕ) (long-f : length f ≡ length ws) (long-g : length g ≡ length vs) where
@@ -24,24 +24,24 @@ pub nulls_after : (m : Meaning) (k : ℕ) → (meaning_after m k).nulls ≡ m.nu
 nulls_after m k = cond_both (nat_lt k (length m.nulls)) (after m k) m (λ x. x.nulls ≡ m.nulls) (λ h. refl) (λ h. refl)
 
 -- where the tables differ, a mixture means what its first bettor means
-mixture_apart : (p q : Meaning) → same_table p.nulls q.nulls ≡ false → mixture p q ≡ p
+mixture_apart : (p q : Meaning) → same_table p.nulls q.nulls ≡ false → mixture_meaning p q ≡ p
 mixture_apart p q apart =
     ap (λ (b : Bool). let m : Meaning = record { nulls = p.nulls; strategy = λ later. cond b (averages (p.strategy later) (q.strategy later)) (p.strategy later) } in m) apart
 
 -- a mixture of two bettors that have learned a class of the first's table has learned it
-pub mixture_after : (p q : Meaning) (k : ℕ) → k < length p.nulls → mixture (meaning_after p k) (meaning_after q k) ≡ meaning_after (mixture p q) k
+pub mixture_after : (p q : Meaning) (k : ℕ) → k < length p.nulls → mixture_meaning (meaning_after p k) (meaning_after q k) ≡ meaning_after (mixture_meaning p q) k
 mixture_after p q k h =
-    ap (λ x. mixture x (meaning_after q k)) (after_class p k h)
-    ∙ cond_both (same_table p.nulls q.nulls) true false (λ b. mixture (after p k) (meaning_after q k) ≡ after (mixture p q) k)
-    (λ same. ap (mixture (after p k)) (after_class q k (omega (arith, h, ap length (same_from p.nulls q.nulls same)))))
+    ap (λ x. mixture_meaning x (meaning_after q k)) (after_class p k h)
+    ∙ cond_both (same_table p.nulls q.nulls) true false (λ b. mixture_meaning (after p k) (meaning_after q k) ≡ after (mixture_meaning p q) k)
+    (λ same. ap (mixture_meaning (after p k)) (after_class q k (omega (arith, h, ap length (same_from p.nulls q.nulls same)))))
     (λ apart. mixture_apart (after p k) (meaning_after q k) (ap (same_table p.nulls) (nulls_after q k) ∙ apart) ∙ sym (ap (λ m. after m k) (mixture_apart p q apart)))
-    ∙ sym (after_class (mixture p q) k h)
+    ∙ sym (after_class (mixture_meaning p q) k h)
 
 -- a mixture takes a step where both bettors take one at a class of the first's table, and nothing changes at any other number
-pub mixture_steps : (p q p' q' : Meaning) (k : ℕ) → (k < length p.nulls → p' ≡ meaning_after p k) → (k < length p.nulls → q' ≡ meaning_after q k) → (length p.nulls ≤ k → mixture p' q' ≡ mixture p q) →
-    mixture p' q' ≡ meaning_after (mixture p q) k
+pub mixture_steps : (p q p' q' : Meaning) (k : ℕ) → (k < length p.nulls → p' ≡ meaning_after p k) → (k < length p.nulls → q' ≡ meaning_after q k) → (length p.nulls ≤ k → mixture_meaning p' q' ≡ mixture_meaning p q) →
+    mixture_meaning p' q' ≡ meaning_after (mixture_meaning p q) k
 mixture_steps p q p' q' k first second same =
     ⊎_elim
     (λ below. let one = first below in let two = second below in rw (one, two) (mixture_after p q k below))
-    (λ past. same past ∙ sym (after_none (mixture p q) k past))
+    (λ past. same past ∙ sym (after_none (mixture_meaning p q) k past))
     (cases_lt k (length p.nulls))

@@ -15,7 +15,7 @@ pairs_self (x ∷ xs) =
     let e : nat_eq x x ≡ true = grind (arith, nat_tests) in
     ap (λ b. cond b (1 + pairs_alike xs xs) 0) e ∙ omega (arith, pairs_self xs)
 
-same_self : (xs : List ℕ) → same_table xs xs ≡ true
+pub same_self : (xs : List ℕ) → same_table xs xs ≡ true
 same_self xs =
     let long : nat_eq (length xs) (length xs) ≡ true = grind (arith, nat_tests) in
     let all : nat_eq (pairs_alike xs xs) (length xs) ≡ true = (let e = pairs_self xs in grind (arith, nat_tests)) in

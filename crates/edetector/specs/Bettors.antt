@@ -1,4 +1,4 @@
--- What a bettor means: a null table, and what it plays after whatever it learns. Every division drops its remainder.
+-- What a bettor means: a null table, and what it plays after whatever it learns. All numbers are whole, and `/` rounds down.
 use Rattle.std.specs.Prelude.{◌≡◌, ℕ, ◌+◌, ◌*◌, ◌/◌, Bool, if◌then◌else◌, ◌&&◌, List, ◌∷◌, ◌++◌, map, length, take, sum, count_by, None, ◌==◌, nat_lt}
 use Rattle.std.specs.List.{zip, range_with_len, common_prefix_len}
 use Rattle.edetector.specs.Tables.{null_fault, unit_factor, IsFair}
@@ -79,8 +79,8 @@ pub record Pair (F S : Type 0) : Type 0 where
   pub second : S
 
 -- a mixture means the first's table, and a row mixed of the two
-abbrev pub mixture : Meaning → Meaning → Meaning
-mixture first second = record {
+abbrev pub mixture_meaning : Meaning → Meaning → Meaning
+mixture_meaning first second = record {
   nulls = first.nulls;
   strategy = λ later. mixed_row first.nulls second.nulls (first.strategy later) (second.strategy later);
 }

@@ -2,15 +2,15 @@
 use Rattle.std.specs.Prelude.{◌≡◌, ℕ, Bool, true, false, List, [], ◌∷◌, map, filter}
 use Rattle.edetector.specs.Tables.{IsFair}
 use Rattle.edetector.specs.Rules.{shiryaev_roberts, page}
-use Rattle.edetector.specs.Bettors.{Meaning, fixed_meaning, adaptive_meaning, mixture}
+use Rattle.edetector.specs.Bettors.{Meaning, fixed_meaning, adaptive_meaning, mixture_meaning}
 use Rattle.edetector.specs.Monitors.{Terms, Standing, terms, first_standing, stake_outcome, Stake, Rearm, is_round, is_alarm, next_outcome}
 use Rattle.edetector.specs.Plans.{Plan, run, weighted_count}
 
-abbrev pub even : Meaning
-even = fixed_meaning (3 ∷ 1 ∷ []) (1 ∷ 1 ∷ [])
+abbrev pub example_meaning : Meaning
+example_meaning = fixed_meaning (3 ∷ 1 ∷ []) (1 ∷ 1 ∷ [])
 
-abbrev pub begun : Terms → Standing
-begun t = first_standing t 1 even
+abbrev pub example_start : Terms → Standing
+example_start t = first_standing t 1 example_meaning
 
 -- the ledger after each of a list of classes, each staked and settled
 abbrev pub ledgers : Terms → Standing → List ℕ → List ℕ
@@ -24,17 +24,17 @@ abbrev pub rearm_and_stake : Plan
 rearm_and_stake past = Stake ∷ Rearm ∷ Stake ∷ []
 
 -- whether each settled round of a run rang
-abbrev pub rounds_rang : Terms → List ℕ → List Bool
-rounds_rang t classes = map is_alarm (filter is_round (run t rearm_and_stake (begun t) classes))
+abbrev pub ring_answers : Terms → List ℕ → List Bool
+ring_answers t classes = map is_alarm (filter is_round (run t rearm_and_stake (example_start t) classes))
 
 pub record WorkedExamples : Type 0 where
-  pub fixed_row : even.strategy [] ≡ 2730 ∷ 8192 ∷ []
-  pub nearest_is_unfair : IsFair even.nulls (2731 ∷ 8192 ∷ []) → ⊥
-  pub adaptive_row : (adaptive_meaning even.nulls []).strategy (1 ∷ []) ≡ 3276 ∷ 6553 ∷ []
-  pub mixture_row : (mixture even (adaptive_meaning even.nulls [])).strategy [] ≡ 3413 ∷ 6144 ∷ []
-  pub sum_ledgers : ledgers (terms even shiryaev_roberts 4) (begun (terms even shiryaev_roberts 4)) (0 ∷ 1 ∷ 1 ∷ []) ≡ 698880 ∷ 3494912 ∷ 9086976 ∷ []
-  pub sum_alarms : rounds_rang (terms even shiryaev_roberts 4) (0 ∷ 1 ∷ 1 ∷ []) ≡ false ∷ false ∷ true ∷ []
-  pub page_ledgers : ledgers (terms even page 4) (begun (terms even page 4)) (1 ∷ 1 ∷ []) ≡ 2097152 ∷ 4194304 ∷ []
-  pub page_alarms : rounds_rang (terms even page 4) (1 ∷ 1 ∷ []) ≡ false ∷ true ∷ []
-  pub alarms_of_two_rounds : weighted_count is_alarm (terms even shiryaev_roberts 2) (begun (terms even shiryaev_roberts 2)) rearm_and_stake 2 ≡ 8
-  pub rounds_of_two_rounds : weighted_count is_round (terms even shiryaev_roberts 2) (begun (terms even shiryaev_roberts 2)) rearm_and_stake 2 ≡ 32
+  pub fixed_row : example_meaning.strategy [] ≡ 2730 ∷ 8192 ∷ []
+  pub nearest_is_unfair : IsFair example_meaning.nulls (2731 ∷ 8192 ∷ []) → ⊥
+  pub adaptive_row : (adaptive_meaning example_meaning.nulls []).strategy (1 ∷ []) ≡ 3276 ∷ 6553 ∷ []
+  pub mixture_row : (mixture_meaning example_meaning (adaptive_meaning example_meaning.nulls [])).strategy [] ≡ 3413 ∷ 6144 ∷ []
+  pub sum_ledgers : ledgers (terms example_meaning shiryaev_roberts 4) (example_start (terms example_meaning shiryaev_roberts 4)) (0 ∷ 1 ∷ 1 ∷ []) ≡ 698880 ∷ 3494912 ∷ 9086976 ∷ []
+  pub sum_alarms : ring_answers (terms example_meaning shiryaev_roberts 4) (0 ∷ 1 ∷ 1 ∷ []) ≡ false ∷ false ∷ true ∷ []
+  pub page_ledgers : ledgers (terms example_meaning page 4) (example_start (terms example_meaning page 4)) (1 ∷ 1 ∷ []) ≡ 2097152 ∷ 4194304 ∷ []
+  pub page_alarms : ring_answers (terms example_meaning page 4) (1 ∷ 1 ∷ []) ≡ false ∷ true ∷ []
+  pub alarms_of_two_rounds : weighted_count is_alarm (terms example_meaning shiryaev_roberts 2) (example_start (terms example_meaning shiryaev_roberts 2)) rearm_and_stake 2 ≡ 8
+  pub rounds_of_two_rounds : weighted_count is_round (terms example_meaning shiryaev_roberts 2) (example_start (terms example_meaning shiryaev_roberts 2)) rearm_and_stake 2 ≡ 32

@@ -1,5 +1,5 @@
 -- What the laws of traits are proved by, and what private fields keep. A reader has to believe none of it: the checker has
--- proved every lemma, and no public contract names a definition of these files.
+-- proved every lemma, and no clause of a public function names a definition of these files.
 pub mod Invariants
 pub mod Limits
 pub mod Mixtures

@@ -73,14 +73,14 @@ is_fitting s slip = is_staked s.state && (slip.tag == s.tag && slip.number == s.
 abbrev pub misfit : {S : Type 0} → S → Refused S
 misfit slip = record { fault = Misfit; slip = slip }
 
--- Stake: the row that is played next is kept, whatever the bettor may learn meanwhile
+-- Stake: the bettor's row now is copied into the monitor, and a slip of the round to come is given
 abbrev pub stake_outcome : Terms → Standing → Outcome (Result OpenSlip MonitorFault)
 stake_outcome t s =
     if not (is_armed s.state) then outcome (Err NotArmed) s
     else if nat_lt s.rounds most_rounds then outcome (Ok (next_slip s)) (record s { state = Staked; row = s.strategy [] })
     else outcome (Err Spent) s
 
--- the ledger after class k: the base of the ledger times the staked row's factor
+-- the ledger that class k leads to: the rule's base for it now, multiplied by what was staked on k
 abbrev pub ledger_after : Terms → Standing → ℕ → ℕ
 ledger_after t s k = (t.base s.ledger * slice_index s.row k) / unit_factor
 
@@ -149,7 +149,7 @@ calls_outcome t s [] = outcome [] s
 calls_outcome t s (c ∷ cs) =
     let one = call_outcome t s c in let rest = calls_outcome t one.after cs in outcome (one.answer ∷ rest.answer) rest.after
 
--- what is counted of a list of answers: accepted settles, those among them that answered that it rang, accepted rearms
+-- which answers count: as a settled round, as an alarm, as a rearm
 abbrev pub is_round : Answer → Bool
 is_round (OfSettle (Ok rang)) = true
 is_round _ = false

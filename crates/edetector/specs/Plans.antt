@@ -5,7 +5,8 @@ use Rattle.edetector.specs.States.{is_staked}
 use Rattle.edetector.specs.Bettors.{Meaning}
 use Rattle.edetector.specs.Monitors.{Terms, Standing, Call, Settle, Answer, terms, first_standing, shown_slip, next_slip, is_fitting, next_outcome, call_outcome, calls_outcome, is_round, is_alarm}
 
--- what a host means to call between two settlements, by the classes that were settled up to then
+-- what a host means to call between two settlements, by the classes that were settled up to then. It knows the tag and the
+-- number of rounds, and so each slip: it may withdraw the one that is out
 abbrev pub Plan : Type 0
 Plan = List ℕ → List Call
 
@@ -38,7 +39,7 @@ abbrev pub sequences : ℕ → ℕ → List (List ℕ)
 sequences n zero = [] ∷ []
 sequences n (suc h) = flat_map (λ k. map (λ ks. k ∷ ks) (sequences n h)) (range_with_len 0 n)
 
--- a sequence's weight: the product of its classes' weights, each in the table of its place
+-- how much a sequence weighs: its classes' weights multiplied, each looked up in the table of its place
 abbrev pub weight_of : List (List ℕ) → List ℕ → ℕ
 weight_of (ws ∷ tables) (k ∷ classes) = slice_index ws k * weight_of tables classes
 weight_of _ _ = 1

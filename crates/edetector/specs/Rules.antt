@@ -17,9 +17,9 @@ pub record IsRestartRule (base : ℕ → ℕ) : Type 0 where
 abbrev pub most_parts : ℕ
 most_parts = 2 ^ 49
 
--- the base of a wealth m: what is begun with it, but above 2^32 parts no bet is begun
+-- a rule's base for a wealth m; but above 2^32 parts no bet is begun, and the base is the wealth
 abbrev pub base_for : ℕ → ℕ → ℕ
-base_for m begun = if nat_lt (2 ^ 32) m then m else begun
+base_for m base = if nat_lt (2 ^ 32) m then m else base
 
 -- the Shiryaev–Roberts rule adds a bet
 abbrev pub shiryaev_roberts : ℕ → ℕ

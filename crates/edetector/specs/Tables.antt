@@ -66,7 +66,7 @@ class_of classes count = min count (classes - 1)
 abbrev pub unit_factor : ℕ
 unit_factor = 4096
 
--- a row is fair against a table: the sum of all weight × factor is at most 4,096 × the total weight
+-- a row is fair against a table: weighed by the table, a factor is on average at most the unit factor
 abbrev pub IsFair : List ℕ → List ℕ → Type 0
 IsFair ws row = sum_by (λ p. p.0 * p.1) (zip ws row) ≤ unit_factor * sum ws
 

@@ -7,11 +7,11 @@ use super::value::ValueFault;
 /// Each by its number.
 #[derive(Clone, Copy, Debug, PartialEq, Eq)]
 pub enum MonitorFault {
-    /// a stake after 1,000,000 rounds
+    /// all rounds that a monitor may settle are settled: a million
     Spent = 31,
-    /// a stake while staked or rung, or a rearm while staked
+    /// a stake finds the monitor staked or rung, or a rearm finds it staked
     NotArmed = 32,
-    /// a slip that is not of the round staked on, or no round is
+    /// the slip is of another monitor, or of another round, than what is staked
     Misfit = 34,
 }
 

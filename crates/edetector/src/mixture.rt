@@ -1,8 +1,8 @@
 // A mixture of any two bettors, which bets half on each.
-ghost use Rattle.std.specs.Prelude.{◌≡◌, ◌+◌, ◌/◌, ◌<◌, ◌≤◌, if◌then◌else◌, length, Ok, Err};
+ghost use Rattle.std.specs.Prelude.{◌≡◌, ◌+◌, ◌/◌, ◌<◌, ◌≤◌, ◌↔◌, if◌then◌else◌, length, Ok, Err, IsOk};
 ghost use Rattle.edetector.specs.declared.value.ValueFault.TheVariants.{NullTables};
 ghost use Rattle.edetector.specs.Tables.{factors_in};
-ghost use Rattle.edetector.specs.Bettors.{meaning_after, averages, mixture, same_table};
+ghost use Rattle.edetector.specs.Bettors.{meaning_after, averages, mixture_meaning, same_table};
 ghost use Rattle.edetector.specs.Lemmas.Mixtures.{mixture_law};
 
 use super::bettor::Bettor;
@@ -11,7 +11,7 @@ use super::value::ValueFault;
 use std::array;
 use std::marker::Model;
 
-/// The first bettor's table is the mixture's. Where the second's differs, the mixture plays the first's row alone.
+/// A mixture's null table is that of its first bettor. Over unlike null tables the second bettor bets nothing.
 #[derive(Drop)]
 pub struct Mixture<F: Bettor, S: Bettor> {
     first: F,
@@ -71,9 +71,10 @@ impl<F: Bettor, S: Bettor> Mixture<F, S> {
 
     /// Refused where the two null tables differ.
     pub fn check(&self) -> Result<(), ValueFault>
-        ensures { let ws = (F.meaning self.now.first).nulls in
+        ensures value { let ws = (F.meaning self.now.first).nulls in
             let vs = (S.meaning self.now.second).nulls in
             result ≡ (if same_table ws vs then Ok tt else Err NullTables) }
+        ensures told { IsOk result ↔ ((F.meaning self.now.first).nulls ≡ (S.meaning self.now.second).nulls) }
     {
         if self.same {
             Ok(())
@@ -84,7 +85,7 @@ impl<F: Bettor, S: Bettor> Mixture<F, S> {
 }
 
 impl<F: Bettor, S: Bettor> Bettor for Mixture<F, S> {
-    ghost meaning = { λ m. mixture (F.meaning m.first) (S.meaning m.second) };
+    ghost meaning = { λ m. mixture_meaning (F.meaning m.first) (S.meaning m.second) };
 
     ghost law = { λ m.
         mixture_law (F.meaning m.first) (S.meaning m.second) (F.law m.first) (S.law m.second) };

@@ -3,7 +3,7 @@ ghost use Rattle.std.specs.Prelude.{◌≡◌, ◌+◌, ◌≤◌};
 ghost use Rattle.edetector.specs.Tables.{most_total};
 ghost use Rattle.edetector.specs.Bettors.{ratio, most_tallied};
 
-use super::units::{Factor, Weight};
+use super::units::{Factor, UNIT_FACTOR, Weight};
 
 // The alternative's share of a class against the null table's: `a` out of `v` to `w` out of `total`, the remainder
 // dropped.
@@ -14,7 +14,7 @@ pub(super) fn likelihood_ratio(total: u32, v: u32, w: Weight, a: Weight) -> Fact
     requires some { (1 ≤ v) × (1 ≤ w.0) }
     ensures { result.0 ≡ ratio total v w.0 a.0 }
 {
-    let above = 4096 * u64::from(a.0) * u64::from(total);
+    let above = UNIT_FACTOR * u64::from(a.0) * u64::from(total);
     let below = u64::from(v) * u64::from(w.0);
     Factor((above / below) as u32)
 }

@@ -5,6 +5,7 @@ ghost use Rattle.edetector.specs.Rules.{IsRestartRule};
 use super::units::Base;
 use super::wealth::Wealth;
 
+/// An own rule shows that its base is at most a bet above the wealth, and the bound holds with it.
 pub trait RestartRule {
     ghost base: { Self → ℕ → ℕ };
 

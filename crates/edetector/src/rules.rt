@@ -10,13 +10,13 @@ use super::wealth::{BET, Wealth};
 // Above so many parts no bet is begun.
 const BEGIN_LIMIT: u64 = 4294967296;
 
-fn base_for(wealth: Wealth, begun: u64) -> Base
-    ensures { result.0 ≡ base_for wealth begun }
+fn base_for(wealth: Wealth, base: u64) -> Base
+    ensures { result.0 ≡ base_for wealth base }
 {
     if wealth.parts > BEGIN_LIMIT {
         Base(wealth.parts)
     } else {
-        Base(begun)
+        Base(base)
     }
 }
 

@@ -18,7 +18,6 @@ pub const MOST_WEIGHT: u32 = 65536;
 pub const MOST_TOTAL: u32 = 65536;
 
 /// The weights of 2 to 16 classes, none below `LEAST`. A contract sees the list of them, as numbers.
-// A fixed array with its length beside it, since a table is copied as a plain value and nothing here takes memory.
 #[derive(Clone, Copy, Debug, PartialEq, Eq)]
 pub struct Table<const LEAST: u32> {
     classes: usize,
@@ -50,5 +49,5 @@ impl<const LEAST: u32> Model for Table<LEAST> {
 /// How often each class comes on a sound line. No weight is 0.
 pub type NullTable = Table<1>;
 
-/// How often each class would come on a worn line.
+/// How often each class would come on a worn line. A weight may be 0, but the total is at least 1.
 pub type AlternativeTable = Table<0>;

@@ -5,6 +5,9 @@ use super::table::MOST_CLASSES;
 #[derive(Clone, Copy, Debug, Default, PartialEq, Eq)]
 pub struct Weight(pub u32);
 
+/// The factor that leaves a bet as it is.
+pub const UNIT_FACTOR: u64 = 4096;
+
 /// What a bet is multiplied by, in parts of 4,096.
 #[derive(Clone, Copy, Debug, Default, PartialEq, Eq)]
 pub struct Factor(pub u32);

@@ -33,6 +33,18 @@ fn rows_are_the_likelihood_ratios(rt: HostRuntime) -> Result<(), Fail> {
 }
 
 #[test]
+fn a_million_classes_are_learned(rt: HostRuntime) -> Result<(), Fail> {
+    let mut adaptive = Adaptive::new(null(1, 65535)?);
+    for _ in 0..1000000 {
+        adaptive.learn(0);
+    }
+    assert_eq!(rt; adaptive.factor(0).0, 251925532);
+    adaptive.learn(1);
+    assert_eq!(rt; adaptive.factor(0).0, 251925532);
+    Ok(())
+}
+
+#[test]
 fn a_mixture_averages_where_the_tables_agree(rt: HostRuntime) -> Result<(), Fail> {
     let both = Mixture::new(example_bettor()?, Adaptive::new(null(3, 1)?));
     assert!(rt; both.check().is_ok());
@@ -42,7 +54,7 @@ fn a_mixture_averages_where_the_tables_agree(rt: HostRuntime) -> Result<(), Fail
     assert_eq!(rt; row[1].0, 6144);
     assert_eq!(rt; row[2].0, 0);
     let mut nested = Mixture::new(both, Adaptive::new(null(2, 1)?));
-    assert!(rt; nested.check().is_err());
+    assert_eq!(rt; refusal(nested.check()), Some(6));
     assert_eq!(rt; nested.factor(0).0, 3413);
     nested.learn(1);
     assert_eq!(rt; nested.factor(0).0, 3003);
@@ -65,6 +77,7 @@ fn bases_stop_growing_above_two_to_the_32(rt: HostRuntime) -> Result<(), Fail> {
     assert_eq!(rt; ShiryaevRoberts.restart(high).0, 4294967297);
     assert_eq!(rt; Page.restart(small).0, 1048576);
     assert_eq!(rt; Page.restart(low).0, 4294967296);
+    assert!(rt; Wealth::new(562949953421312).is_some());
     assert!(rt; Wealth::new(562949953421313).is_none());
     Ok(())
 }

@@ -65,6 +65,17 @@ fn a_slip_of_another_monitor_is_handed_back(rt: HostRuntime) -> Result<(), Fail>
 }
 
 #[test]
+fn a_million_rounds_are_settled(rt: HostRuntime) -> Result<(), Fail> {
+    let mut m = page_monitor(4, 1)?;
+    for _ in 0..1000000 {
+        assert!(rt; !round(&mut m, 0)?);
+    }
+    assert_eq!(rt; refusal(round(&mut m, 0)), Some(31));
+    assert_eq!(rt; m.read().rounds, 1000000);
+    Ok(())
+}
+
+#[test]
 fn a_threshold_is_1_to_4096(rt: HostRuntime) {
     assert_eq!(rt; refusal(page_monitor(0, 1)), Some(4));
     assert_eq!(rt; refusal(page_monitor(1, 1)), None);

@@ -25,7 +25,7 @@ use Rattle.playback.specs.Accepted.{NoFault, WatchedRecords, AfterSetup, LogReco
 use Rattle.playback.specs.Course.{Event, Settled, Passed, Rearmed, days_of, RisingDays, free_in, EventsOf, behind_all, spot_behind, Reached}
 use Rattle.plantlog.specs.declared.record.Setup.{Setup as SetupValue}
 use Rattle.playback.specs.Front.{rule_named, bettor_named}
-use Rattle.playback.specs.Replayed.{Replay, begun, finished, no_monitor, with_record, monitored, meaning_of, has_alternative, alternative_of, after_table, replayed, replay_told, head_of}
+use Rattle.playback.specs.Replayed.{Replay, first_watch, finished, no_monitor, with_record, monitored, meaning_of, has_alternative, alternative_of, after_table, replayed, replay_told, head_of}
 use Rattle.playback.specs.Replaying.{Spot, longest, first_spot, nowhere, behind, fault_in, watching}
 use Rattle.playback.specs.Stream.{Stream, Over, Broken, Next, opened, stream_by, stream_of}
 use Rattle.playback.specs.Rest.{Rest, whole, taken_whole}
@@ -105,8 +105,8 @@ ends t p s at w none =
     of_events c.events s at w.last w.counts end.0 _ c.of_log c.rising c.counts end.1
 
 module _ (p : Places) (ws : List ℕ) (x : SetupValue) where
-  made_by : (t : Terms) (m : Meaning) (rest : Stream) (at : Spot) (b : Bool) → NoFault (cond b (finished m.nulls x t (watching t p rest at (begun t m))) (no_monitor at (Value Threshold))).said → Left None 0 rest
-  made_by t m rest at true none = ends t p rest at (begun t m) none
+  made_by : (t : Terms) (m : Meaning) (rest : Stream) (at : Spot) (b : Bool) → NoFault (cond b (finished m.nulls x t (watching t p rest at (first_watch t m))) (no_monitor at (Value Threshold))).said → Left None 0 rest
+  made_by t m rest at true none = ends t p rest at (first_watch t m) none
   made_by t m rest at false none = absurd none
 
   made : (m : Meaning) (rest : Stream) (at : Spot) → NoFault (monitored p x m rest at).said → Left None 0 rest

@@ -22,7 +22,7 @@ use Rattle.playback.specs.declared.stop.ReplayFault.TheVariants.{Value, CountsDi
 use Rattle.playback.specs.Accepted.{NoFault, WatchedRecords, AfterSetup, LogRecords, counts_in, Takes}
 use Rattle.playback.specs.Course.{Settled, Passed, after_event, alarm_of, passed_in}
 use Rattle.playback.specs.Front.{rule_named, bettor_named}
-use Rattle.playback.specs.Replayed.{Replay, rule_base, begun, finished, no_monitor, with_record, monitored, meaning_of, has_alternative, alternative_of, after_setup, after_table, replayed, head_of}
+use Rattle.playback.specs.Replayed.{Replay, rule_base, first_watch, finished, no_monitor, with_record, monitored, meaning_of, has_alternative, alternative_of, after_setup, after_table, replayed, head_of}
 use Rattle.playback.specs.Replaying.{Spot, longest, first_spot, nowhere, behind, went, at_end, watching}
 use Rattle.playback.specs.Stream.{Stream, Over, Next, stream_of}
 use Rattle.playback.specs.Watch.{Watch, Places, Done, taken, alarm_if, restood}
@@ -167,9 +167,9 @@ module _ (p : Places) (ws : List ℕ) (x : SetupValue) (inside : from_to 1 4096 
   made_so : (m : Meaning) (fs : List Fields) (at : Spot) → AllWritable fs → WatchedRecords None 0 fs → Room p (counts_in fs) → NoFault (monitored p x m (stream_of (log_bytes fs)) at).said
   made_so m fs at writable ordered room =
       let t = terms m (rule_base x.rule) x.threshold in
-      let fine : Fine p (begun t m) (counts_in fs) = record { calm = λ e. cc; rounds = omega (arith, room.rounds); alarms = omega (arith, room.alarms); unwatched = omega (arith, room.unwatched) } in
-      let none = goes_through t p fs writable at (begun t m) ordered fine in
-      subst (λ (b : Bool). NoFault (cond b (finished m.nulls x t (watching t p (stream_of (log_bytes fs)) at (begun t m))) (no_monitor at (Value Threshold))).said) (sym inside) none
+      let fine : Fine p (first_watch t m) (counts_in fs) = record { calm = λ e. cc; rounds = omega (arith, room.rounds); alarms = omega (arith, room.alarms); unwatched = omega (arith, room.unwatched) } in
+      let none = goes_through t p fs writable at (first_watch t m) ordered fine in
+      subst (λ (b : Bool). NoFault (cond b (finished m.nulls x t (watching t p (stream_of (log_bytes fs)) at (first_watch t m))) (no_monitor at (Value Threshold))).said) (sym inside) none
 
   abbrev plays_by : List ℕ → Stream → Spot → Replay
   plays_by alts = monitored p x (meaning_of x.bettor ws alts)

@@ -3,7 +3,7 @@ use Rattle.std.specs.Prelude.{ℕ, Bool, true, false, if◌then◌else◌, List,
 use Rattle.edetector.specs.declared.value.ValueFault.TheVariants.{Alternative as UnlikeClasses, Threshold}
 use Rattle.edetector.specs.Tables.{from_to}
 use Rattle.edetector.specs.Rules.{most_threshold, shiryaev_roberts, page}
-use Rattle.edetector.specs.Bettors.{Meaning, fixed_meaning, adaptive_meaning, mixture}
+use Rattle.edetector.specs.Bettors.{Meaning, fixed_meaning, adaptive_meaning, mixture_meaning}
 use Rattle.edetector.specs.Monitors.{Terms, terms, first_standing, read_outcome}
 use Rattle.plantlog.specs.declared.fault.RecordFault.TheVariants.{NoneLeft}
 use Rattle.plantlog.specs.declared.record.Setup.{Setup}
@@ -67,8 +67,8 @@ with_record (Ok x) s at go = go x (tail_of s) (behind at (taken_of s))
 with_record (Err f) s at go = no_monitor at f
 
 -- nothing counted yet, and both books empty
-abbrev pub begun : Terms → Meaning → Watch
-begun t m = record { standing = first_standing t 1 m; last = None; counts = 0; alarms = []; unwatched = [] }
+abbrev pub first_watch : Terms → Meaning → Watch
+first_watch t m = record { standing = first_standing t 1 m; last = None; counts = 0; alarms = []; unwatched = [] }
 
 -- what is told of a finish
 abbrev pub finished : List ℕ → Setup → Terms → Finish → Replay
@@ -89,13 +89,13 @@ finished ws x t f = record {
 abbrev pub monitored : Places → Setup → Meaning → Stream → Spot → Replay
 monitored p x m rest at =
     let t = terms m (rule_base x.rule) x.threshold in
-    if from_to 1 most_threshold x.threshold then finished m.nulls x t (watching t p rest at (begun t m)) else no_monitor at (Value Threshold)
+    if from_to 1 most_threshold x.threshold then finished m.nulls x t (watching t p rest at (first_watch t m)) else no_monitor at (Value Threshold)
 
 -- what the bettor means that a setup names; the adaptive one has no alternative
 abbrev pub meaning_of : BettorChoice → List ℕ → List ℕ → Meaning
 meaning_of Fixed ws alts = fixed_meaning ws alts
 meaning_of Adaptive ws alts = adaptive_meaning ws []
-meaning_of Mixture ws alts = mixture (fixed_meaning ws alts) (adaptive_meaning ws [])
+meaning_of Mixture ws alts = mixture_meaning (fixed_meaning ws alts) (adaptive_meaning ws [])
 
 abbrev pub has_alternative : BettorChoice → Bool
 has_alternative Fixed = true

@@ -4,7 +4,7 @@ use Rattle.std.proofs.lemmas.Bool.{and_parts, cond_both}
 use Rattle.std.proofs.Common.{sym, ap, ◌∙◌, subst, arith}
 use Rattle.std.proofs.lemmas.Bool.Decides.{nat_tests}
 use Rattle.edetector.specs.Tables.{IsFair}
-use Rattle.edetector.specs.Bettors.{Meaning, IsBettor, pairs_alike, same_table, averages, mixed_row, mixture}
+use Rattle.edetector.specs.Bettors.{Meaning, IsBettor, pairs_alike, same_table, averages, mixed_row, mixture_meaning}
 use Rattle.edetector.specs.Lemmas.Sums.{weigh, weigh_mono, weigh_scale, weigh_add, fair_by_class, fair_from_class}
 
 pairs_from : (xs ys : List ℕ) → length xs ≡ length ys → pairs_alike xs ys ≡ length xs → xs ≡ ys
@@ -62,7 +62,7 @@ module _ (ws vs f g : List ℕ) (long-f : length f ≡ length ws) (long-g : leng
       (λ h. averages_fair ws f g long-f (level h) p (subst (λ (t : List ℕ). IsFair t g) (sym (same_from ws vs h)) q)) (λ h. p)
 
 -- what a mixture keeps follows from what its two bettors keep
-pub mixture_law : (first second : Meaning) → IsBettor first → IsBettor second → IsBettor (mixture first second)
+pub mixture_law : (first second : Meaning) → IsBettor first → IsBettor second → IsBettor (mixture_meaning first second)
 mixture_law first second p q = record {
   table = p.table;
   factors = λ later. mixed_long first.nulls second.nulls (first.strategy later) (second.strategy later) (p.factors later) (q.factors later);

@@ -30,7 +30,7 @@ impl Adaptive {
 }
 
 impl Bettor for Adaptive {
-    ghost meaning = { λ b. adaptive_meaning b.null (tally_of b) };
+    ghost meaning = { λ b. adaptive_meaning (null_of b) (tally_of b) };
 
     ghost law = { λ b. adaptive_law b.null (tally_of b) b.null_unbroken };
 

@@ -57,7 +57,7 @@ impl Fixed {
 }
 
 impl Bettor for Fixed {
-    ghost meaning = { λ b. fixed_meaning b.null b.alternative };
+    ghost meaning = { λ b. fixed_meaning (tables_of b).0 (tables_of b).1 };
 
     ghost law = { λ b.
         fixed_law b.null b.alternative b.null_unbroken b.alternative_unbroken b.same_classes };

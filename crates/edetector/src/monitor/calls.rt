@@ -1,9 +1,9 @@
 // How a monitor is made, and its five calls.
-ghost use Rattle.std.specs.Prelude.{◌≡◌, ◌*◌, ◌/◌, ◌≤◌, ◌↔◌, IsTrue, OnErr, IsSome, IfSome};
+ghost use Rattle.std.specs.Prelude.{◌≡◌, ◌+◌, ◌*◌, ◌/◌, ◌≤◌, ◌↔◌, IsTrue, OnErr, IsSome, IfSome};
 ghost use Rattle.edetector.specs.declared.monitor.phase.Phase.TheVariants.{Staked};
 ghost use Rattle.edetector.specs.Monitors.{is_fitting, Stake, Settle, Withdraw, Rearm, Read, OfStake, OfSettle, OfWithdraw, OfRearm, OfRead, Does, view, bettor_of, rule_of, monitor_parts, new_monitor, AfterCalls};
 ghost use Rattle.edetector.specs.Plans.{Bound};
-ghost use Rattle.edetector.specs.Rules.{bet};
+ghost use Rattle.edetector.specs.Rules.{bet, most_threshold};
 ghost use Rattle.edetector.specs.Tables.{unit_factor};
 ghost use Rattle.edetector.specs.Lemmas.Limits.{most_factor};
 ghost use Rattle.std.specs.Result.{result_map_both};
@@ -13,7 +13,7 @@ use super::super::fault::{MonitorFault, Refused, Unmade};
 use super::super::rule::RestartRule;
 use super::super::slip::{OpenSlip, ShownSlip};
 use super::super::table::reads::class_of;
-use super::super::units::{Base, Factor};
+use super::super::units::{Base, Factor, UNIT_FACTOR};
 use super::super::value::ValueFault;
 use super::super::wealth::{BET, Wealth};
 use super::phase::{Phase, StakedRow};
@@ -27,12 +27,12 @@ const MOST_ROUNDS: u32 = 1000000;
 
 // The ledger's step, the only place where a wealth meets a factor.
 fn ledger_after(base: Base, factor: Factor) -> Wealth
-    requires low { base.0 ≤ 4097 * bet }
+    requires low { base.0 ≤ (most_threshold + 1) * bet }
     requires small { factor.0 ≤ most_factor }
     ensures { result ≡ (base.0 * factor.0) / unit_factor }
 {
     Wealth {
-        parts: base.0 * u64::from(factor.0) / 4096,
+        parts: base.0 * u64::from(factor.0) / UNIT_FACTOR,
     }
 }
 

@@ -6,7 +6,7 @@ use super::super::units::Weight;
 use super::Table;
 
 impl<const LEAST: u32> Table<LEAST> {
-    /// A table breaks no limit.
+    /// How many classes the table has: 2 to 16. Nor does it break any other limit.
     pub fn classes(&self) -> usize
         ensures value { result ≡ length self.now }
         ensures unbroken { table_fault LEAST self.now ≡ None }

@@ -1,6 +1,6 @@
 use Rattle.std.proofs.Common.{Err, sym, ap, ◌∙◌, ap₂}
 use Rattle.std.proofs.lemmas.Result.{err_from_is_err_and}
-use Rattle.edetector.specs.Bettors.{fixed_meaning, adaptive_meaning, mixture}
+use Rattle.edetector.specs.Bettors.{fixed_meaning, adaptive_meaning, mixture_meaning}
 use Rattle.edetector.specs.BettorParts.{tally_of}
 use Rattle.plantlog.specs.declared.record.BettorChoice.{BettorChoice}
 use Rattle.playback.specs.Replayed.{meaning_of, has_alternative}
@@ -59,9 +59,9 @@ returns-in_ok-fixed-in-Mixture-clause-value c =
     let alts = f.alternative in
     let other = ap has_alternative c.in-Mixture.is in
     let plays =
-    ap (λ m. mixture (fixed_meaning m.first.null m.first.alternative) (adaptive_meaning m.second.null (tally_of m.second))) c.new-mixture.ensures
-    ∙ ap (λ x. mixture (fixed_meaning x alts) (adaptive_meaning a.null (tally_of a))) c.in_ok-fixed-in-Mixture.ensures.table
-    ∙ ap₂ (λ x y. mixture (fixed_meaning n alts) (adaptive_meaning x y)) c.new-in-Mixture.ensures.table c.new-in-Mixture.ensures.tally
+    ap (λ m. mixture_meaning (fixed_meaning m.first.null m.first.alternative) (adaptive_meaning m.second.null (tally_of m.second))) c.new-mixture.ensures
+    ∙ ap (λ x. mixture_meaning (fixed_meaning x alts) (adaptive_meaning a.null (tally_of a))) c.in_ok-fixed-in-Mixture.ensures.table
+    ∙ ap₂ (λ x y. mixture_meaning (fixed_meaning n alts) (adaptive_meaning x y)) c.new-in-Mixture.ensures.table c.new-in-Mixture.ensures.tally
     ∙ sym (ap (λ (b : BettorChoice). meaning_of b n alts) c.in-Mixture.is) in
     c.run-in-Mixture.ensures.value
     ∙ third_taken _ c.header-2.new.records c.fixed-in-Mixture.new.records c.in_ok-fixed-in-Mixture.ensures.moved n c.in_ok-setup.setup alts _ other c.in_ok-fixed-in-Mixture.ensures.value plays
