@@ -9,7 +9,7 @@ use Rattle.std.proofs.lemmas.List.{get_or-take, get_or_past, take-replicate, len
 use Rattle.std.proofs.lemmas.List.Sums.{sum_by-cons, sum_by-append, count_by-le-length}
 use Rattle.edetector.specs.declared.adaptive.Adaptive.{Adaptive}
 use Rattle.edetector.specs.Bettors.{Meaning, Strategy, meaning_after, ratio, ratios, most_tallied, times, tally_with, tallied_weights, adaptive_row, adaptive_meaning}
-use Rattle.edetector.specs.BettorParts.{classes_counted, tally_of, tally_after}
+use Rattle.edetector.specs.NamedBettors.{classes_counted, tally_of, tally_after}
 use Rattle.edetector.specs.Lemmas.Limits.{TableLimits, table_limits}
 use Rattle.edetector.specs.Lemmas.Sums.{sum_cons}
 use Rattle.edetector.specs.Lemmas.Ratios.{ratios_long}

@@ -1,8 +1,8 @@
-pub mod BettorParts
 pub mod Bettors
 pub mod Examples
 pub mod Lemmas
 pub mod Monitors
+pub mod NamedBettors
 pub mod Plans
 pub mod Rules
 pub mod States

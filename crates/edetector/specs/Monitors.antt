@@ -177,8 +177,8 @@ view meaning m =
     let row = row_in m.phase (length b.nulls) in
     record { tag = m.tag; state = state_of m.phase; ledger = m.ledger; rounds = m.rounds; alarms = m.alarms; row = row; strategy = b.strategy }
 
-abbrev pub monitor_parts : {B R : Type 0} → (B → Meaning) → (R → ℕ → ℕ) → Monitor B R → Terms × Standing × B × R
-monitor_parts meaning base m = (terms_of meaning base m, view meaning m, m.bettor, m.rule)
+abbrev pub whole_view : {B R : Type 0} → (B → Meaning) → (R → ℕ → ℕ) → Monitor B R → Terms × Standing × B × R
+whole_view meaning base m = (terms_of meaning base m, view meaning m, m.bettor, m.rule)
 
 -- a monitor just made, or what was handed over, handed back where the threshold is not 1 to 4,096
 abbrev pub new_monitor : {B R : Type 0} → (B → Meaning) → (R → ℕ → ℕ) → B → R → ℕ → ℕ → Result (Terms × Standing × B × R) (Unmade B R)

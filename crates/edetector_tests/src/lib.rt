@@ -2,7 +2,7 @@
 #![tactic(auto)]
 
 ghost use Rattle.std.specs.Prelude.{◌≡◌, [], ◌∷◌, MatchResult};
-ghost use Rattle.edetector.specs.BettorParts.{tables_of};
+ghost use Rattle.edetector.specs.NamedBettors.{tables_of};
 
 use edetector::fixed::Fixed;
 use edetector::table::{AlternativeTable, NullTable};

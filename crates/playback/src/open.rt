@@ -1,6 +1,6 @@
 // The header, and the monitor that it asks for.
 ghost use Rattle.std.specs.Prelude.{◌≡◌, IfOk, OnOk};
-ghost use Rattle.edetector.specs.BettorParts.{tables_of};
+ghost use Rattle.edetector.specs.NamedBettors.{tables_of};
 ghost use Rattle.plantlog.specs.Results.{of_ok};
 ghost use Rattle.playback.specs.Held.{places_lent, NothingYet, KeepsBooks};
 ghost use Rattle.playback.specs.Replayed.{monitored, replayed, replay_told, alternative_for};

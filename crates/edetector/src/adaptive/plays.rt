@@ -1,7 +1,7 @@
 // How the adaptive bettor is made, what it plays and how it learns.
 ghost use Rattle.std.specs.Prelude.{◌≡◌, ℕ, ◌≤◌, [], length};
 ghost use Rattle.edetector.specs.Bettors.{most_tallied, times, adaptive_meaning};
-ghost use Rattle.edetector.specs.BettorParts.{null_of, tally_of, tally_after};
+ghost use Rattle.edetector.specs.NamedBettors.{null_of, tally_of, tally_after};
 ghost use Rattle.edetector.specs.Lemmas.Tallies.{adaptive_law};
 
 use super::super::bettor::Bettor;

@@ -3,7 +3,7 @@ ghost use Rattle.std.specs.Prelude.{◌≡◌, [], length, None, slice_index};
 ghost use Rattle.std.specs.Result.{result_map_both};
 ghost use Rattle.edetector.specs.Tables.{factors_in, padded_row, null_fault, alternative_fault};
 ghost use Rattle.edetector.specs.Bettors.{fixed_meaning};
-ghost use Rattle.edetector.specs.BettorParts.{tables_of, new_fixed};
+ghost use Rattle.edetector.specs.NamedBettors.{tables_of, new_fixed};
 ghost use Rattle.edetector.specs.Lemmas.Ratios.{fixed_law};
 
 use super::super::bettor::Bettor;

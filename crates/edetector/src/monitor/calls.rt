@@ -1,7 +1,7 @@
 // How a monitor is made, and its five calls.
 ghost use Rattle.std.specs.Prelude.{◌≡◌, ◌+◌, ◌*◌, ◌/◌, ◌≤◌, ◌↔◌, IsTrue, OnErr, IsSome, IfSome};
 ghost use Rattle.edetector.specs.declared.monitor.phase.Phase.TheVariants.{Staked};
-ghost use Rattle.edetector.specs.Monitors.{is_fitting, Stake, Settle, Withdraw, Rearm, Read, OfStake, OfSettle, OfWithdraw, OfRearm, OfRead, Does, view, bettor_of, rule_of, monitor_parts, new_monitor, AfterCalls};
+ghost use Rattle.edetector.specs.Monitors.{is_fitting, Stake, Settle, Withdraw, Rearm, Read, OfStake, OfSettle, OfWithdraw, OfRearm, OfRead, Does, view, bettor_of, rule_of, whole_view, new_monitor, AfterCalls};
 ghost use Rattle.edetector.specs.Plans.{Bound};
 ghost use Rattle.edetector.specs.Rules.{bet, most_threshold};
 ghost use Rattle.edetector.specs.Tables.{unit_factor};
@@ -40,7 +40,7 @@ impl<B: Bettor, R: RestartRule> Monitor<B, R> {
     /// Refused where the threshold is not 1 to 4,096. Whatever the bettor, the rule and the plan of calls, the alarms are
     /// bounded; and after any calls a monitor has answered, and stands, as the calls one by one say.
     pub fn new(bettor: B, rule: R, threshold: u32, tag: u32) -> Result<Monitor<B, R>, Unmade<B, R>>
-        ensures made { result_map_both (monitor_parts B.meaning R.base) (λ e. e) result
+        ensures made { result_map_both (whole_view B.meaning R.base) (λ e. e) result
             ≡ new_monitor B.meaning R.base bettor rule threshold tag }
         ensures calls { AfterCalls B.meaning R.base }
         ensures bound { Bound (B.meaning bettor) (R.base rule) threshold tag }

@@ -1,7 +1,7 @@
 use Rattle.std.proofs.Common.{Err, sym, ap, ◌∙◌, ap₂}
 use Rattle.std.proofs.lemmas.Result.{err_from_is_err_and}
 use Rattle.edetector.specs.Bettors.{fixed_meaning, adaptive_meaning, mixture_meaning}
-use Rattle.edetector.specs.BettorParts.{tally_of}
+use Rattle.edetector.specs.NamedBettors.{tally_of}
 use Rattle.plantlog.specs.declared.record.BettorChoice.{BettorChoice}
 use Rattle.playback.specs.Replayed.{meaning_of, has_alternative}
 use Rattle.playback.proofs.Opens.{unmade_told, header_taken, first_refused, second_refused, third_refused, first_taken, third_taken, goes_adaptive}

@@ -1,6 +1,6 @@
 use Rattle.std.proofs.Common.{ap, ◌∙◌, arith}
 use Rattle.edetector.specs.Bettors.{adaptive_meaning}
-use Rattle.edetector.specs.BettorParts.{tally_of}
+use Rattle.edetector.specs.NamedBettors.{tally_of}
 use Rattle.edetector.proofs.TallyReads.{tally_long, adaptive_learns}
 use Rattle.edetector.proofs.adaptive.plays.AdaptiveBettor.TheImpl.Goals as goal
 

@@ -1,5 +1,5 @@
 use Rattle.std.proofs.Common.{◌+◌, length, get_or, refl, ◌∙◌, arith, length-set}
-use Rattle.edetector.specs.BettorParts.{tally_of, tally_after}
+use Rattle.edetector.specs.NamedBettors.{tally_of, tally_after}
 use Rattle.edetector.specs.Lemmas.Tallies.{SameCounts}
 use Rattle.edetector.proofs.TallyReads.{tally_long, count_part, tallied_more, tally_moves, tally_stays, tally_full}
 use Rattle.edetector.proofs.adaptive.plays.AdaptiveBettor.learn.Goals as goal

@@ -1,4 +1,4 @@
--- What the fixed and the adaptive bettor are made of.
+-- The fixed and the adaptive bettor: what they are made of.
 use Rattle.std.specs.Prelude.{ℕ, suc, if◌then◌else◌, List, [], ◌∷◌, ◌++◌, length, take, replicate, Ok, Err, Result, ◌==◌, nat_lt}
 use Rattle.edetector.specs.declared.fixed.Fixed.{Fixed}
 use Rattle.edetector.specs.declared.adaptive.Adaptive.{Adaptive}
