@@ -55,9 +55,11 @@ impl Bettor for Adaptive {
     // Once a million classes are tallied, nothing changes any more.
     fn learn(&mut self, class: usize)
         ensures table { null_of self.new ≡ null_of self.old }
-        ensures times { let tally = tally_after (length (null_of self.old)) (tally_of self.old) class in
+        ensures times { let classes = length (null_of self.old) in
+            let tally = tally_after classes (tally_of self.old) class in
             (k : ℕ) → times k (tally_of self.new) ≡ times k tally }
-        ensures tallied { let tally = tally_after (length (null_of self.old)) (tally_of self.old) class in
+        ensures tallied { let classes = length (null_of self.old) in
+            let tally = tally_after classes (tally_of self.old) class in
             length (tally_of self.new) ≡ length tally }
         ensures none { length (null_of self.old) ≤ class → self.new ≡ self.old }
         ensures full { most_tallied ≤ length (tally_of self.old) → self.new ≡ self.old }

@@ -34,7 +34,8 @@ fn ratios_of(null: &NullTable, alternative: &AlternativeTable) -> Row
     requires null { null_fault null.now ≡ None }
     requires alternative { alternative_fault alternative.now ≡ None }
     requires same_classes { length alternative.now ≡ length null.now }
-    ensures { factors_in result ≡ padded_row ((fixed_meaning null.now alternative.now).strategy []) }
+    ensures { let m = fixed_meaning null.now alternative.now in
+        factors_in result ≡ padded_row (m.strategy []) }
 {
     array::from_fn(|k| ratio_at(null, alternative, k))
 }
