@@ -1,4 +1,4 @@
--- What a plan's run answers, settlement by settlement; and any calls of a monitor by their contracts.
+-- What a plan's run answers, settlement by settlement.
 use Rattle.std.proofs.Common.{◌≡◌, ℕ, ◌+◌, Bool, true, false, cond, ◌&&◌, eqb, List, [], ◌∷◌, ◌++◌, length, Ok, Result, sym, refl, ap, ap₂, ◌∙◌, zero-add, arith}
 use Rattle.std.specs.List.{count_by}
 use Rattle.std.proofs.lemmas.Bool.{false≢true, cond_both}

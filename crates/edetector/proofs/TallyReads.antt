@@ -13,8 +13,13 @@ use Rattle.edetector.specs.NamedBettors.{classes_counted, tally_of, tally_after}
 use Rattle.edetector.specs.Lemmas.Limits.{TableLimits, table_limits}
 use Rattle.edetector.specs.Lemmas.Sums.{sum_cons}
 use Rattle.edetector.specs.Lemmas.Ratios.{ratios_long}
-use Rattle.edetector.specs.Lemmas.Tallies.{tallied_from, tallied_long, SameCounts}
+use Rattle.edetector.specs.Lemmas.Tallies.{tallied_from, tallied_long}
 use Rattle.edetector.proofs.RatiosAt.{ratios_at, tallied_at}
+
+-- two tallies in which each class came as often
+pub record SameCounts (t u : List ℕ) : Type 0 where
+  pub long : length t ≡ length u
+  pub each : (k : ℕ) → times k t ≡ times k u
 
 times_cons : (k c : ℕ) (tally : List ℕ) → times k (c ∷ tally) ≡ cond (c == k) 1 0 + times k tally
 times_cons k c tally = sum_by-cons (λ x. cond (x == k) 1 0) c tally

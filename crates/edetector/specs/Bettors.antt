@@ -3,7 +3,7 @@ use Rattle.std.specs.Prelude.{◌≡◌, ℕ, ◌+◌, ◌*◌, ◌/◌, Bool, i
 use Rattle.std.specs.List.{zip, range_with_len, common_prefix_len}
 use Rattle.edetector.specs.Tables.{null_fault, unit_factor, IsFair}
 
--- the row of factors that is played once just these classes were learned
+-- the row of factors that is played once these classes, in this order and no others, are learned from now on
 abbrev pub Strategy : Type 0
 Strategy = List ℕ → List ℕ
 
@@ -21,7 +21,8 @@ pub record IsBettor (m : Meaning) : Type 0 where
 abbrev pub meaning_after : Meaning → ℕ → Meaning
 meaning_after m k = if nat_lt k (length m.nulls) then record m { strategy = λ later. m.strategy (k ∷ later) } else m
 
--- the likelihood ratio (a / v) : (w / n) of a class with alternative weight a out of v and null weight w out of n
+-- the likelihood ratio (a / v) : (w / n) of a class with alternative weight a out of v and null weight w out of n,
+-- in parts of the unit factor
 abbrev pub ratio : ℕ → ℕ → ℕ → ℕ → ℕ
 ratio n v w a = (unit_factor * a * n) / (v * w)
 
@@ -74,7 +75,7 @@ abbrev pub mixed_row : List ℕ → List ℕ → List ℕ → List ℕ → List 
 mixed_row ws vs f g = if same_table ws vs then averages f g else f
 
 -- the two bettors of a mixture
-pub record Pair (F S : Type 0) : Type 0 where
+pub record TwoBettors (F S : Type 0) : Type 0 where
   pub first : F
   pub second : S
 

@@ -31,7 +31,7 @@ pub record Terms : Type 0 where
 abbrev pub terms : Meaning → (ℕ → ℕ) → ℕ → Terms
 terms m base threshold = record { nulls = m.nulls; base = base; threshold = threshold }
 
--- the ledger that a monitor begins with, and again after a rearm
+-- the ledger that a monitor of these terms begins with, and again after a rearm: 0, whatever the terms
 abbrev pub first_ledger : Terms → ℕ
 first_ledger t = 0
 
@@ -80,7 +80,7 @@ stake_outcome t s =
     else if nat_lt s.rounds most_rounds then outcome (Ok (next_slip s)) (record s { state = Staked; row = s.strategy [] })
     else outcome (Err Spent) s
 
--- the ledger that class k leads to: the rule's base for it now, multiplied by what was staked on k
+-- the ledger that class k leads to: the rule's base for the ledger now, multiplied by the factor staked on k
 abbrev pub ledger_after : Terms → Standing → ℕ → ℕ
 ledger_after t s k = (t.base s.ledger * slice_index s.row k) / unit_factor
 
@@ -118,7 +118,7 @@ rearm_outcome t s =
 abbrev pub read_outcome : Terms → Standing → Outcome Reading
 read_outcome t s = outcome (record { state = s.state; ledger = s.ledger; rounds = s.rounds; alarms = s.alarms }) s
 
--- the five calls with the slips that they take, and what each answers
+-- the five calls, with the slips that they take
 pub data Call : Type 0 where
   Stake : Call
   Settle : ShownSlip → Call
@@ -126,6 +126,7 @@ pub data Call : Type 0 where
   Rearm : Call
   Read : Call
 
+-- what each of them answers
 pub data Answer : Type 0 where
   OfStake : Result OpenSlip MonitorFault → Answer
   OfSettle : Result Bool (Refused ShownSlip) → Answer

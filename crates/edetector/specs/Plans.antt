@@ -26,8 +26,8 @@ abbrev pub run_calls : Terms → Plan → Standing → List ℕ → List ℕ →
 run_calls t plan s past [] = plan_calls t s (plan past)
 run_calls t plan s past (k ∷ classes) =
     let first = plan_calls t s (plan past) in
-    let m = (calls_outcome t s first).after in
-    if is_staked m.state then first ++ (Settle (shown_slip (next_slip m) k) ∷ run_calls t plan (next_outcome t m k).after (past ++ (k ∷ [])) classes)
+    let staked = (calls_outcome t s first).after in
+    if is_staked staked.state then first ++ (Settle (shown_slip (next_slip staked) k) ∷ run_calls t plan (next_outcome t staked k).after (past ++ (k ∷ [])) classes)
     else first
 
 -- a run is what its calls answer
@@ -44,7 +44,8 @@ abbrev pub weight_of : List (List ℕ) → List ℕ → ℕ
 weight_of (ws ∷ tables) (k ∷ classes) = slice_index ws k * weight_of tables classes
 weight_of _ _ = 1
 
--- the sum, over all sequences of h classes, of the null table's weight × how many answers of the plan's run from s pass a test
+-- the sum, over all sequences of h classes, of a sequence's weight by the null table × how many answers of the plan's run
+-- from s pass a test
 abbrev pub weighted_count : (Answer → Bool) → Terms → Standing → Plan → ℕ → ℕ
 weighted_count test t s plan h =
     sum_by (λ classes. weight_of (replicate h t.nulls) classes * count_by test (run t plan s classes)) (sequences (length t.nulls) h)

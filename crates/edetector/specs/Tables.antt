@@ -4,12 +4,12 @@ use Rattle.std.specs.List.{list_all, zip}
 use Rattle.edetector.specs.declared.units.Weight.{Weight}
 use Rattle.edetector.specs.declared.units.Factor.{Factor}
 use Rattle.edetector.specs.declared.value.ValueFault.{ValueFault}
-use Rattle.edetector.specs.declared.value.ValueFault.TheVariants.{Classes, Weight as AWeight, Total, Threshold, NullTables, Alternative}
+use Rattle.edetector.specs.declared.value.ValueFault.TheVariants.{Classes, Weight as WeightFault, Total, Threshold, NullTables, Alternative}
 
 -- the number of each refusal of a value
 abbrev pub value_number : ValueFault → ℕ
 value_number Classes = 1
-value_number AWeight = 2
+value_number WeightFault = 2
 value_number Total = 3
 value_number Threshold = 4
 value_number NullTables = 6
@@ -42,7 +42,7 @@ weights_within low ws = list_all (from_to low most_weight) ws
 abbrev pub table_fault : ℕ → List ℕ → Option ValueFault
 table_fault low ws =
     if not (from_to fewest_classes most_classes (length ws)) then Some Classes
-    else if not (weights_within low ws) then Some AWeight
+    else if not (weights_within low ws) then Some WeightFault
     else if not (from_to 1 most_total (sum ws)) then Some Total
     else None
 

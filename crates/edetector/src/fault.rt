@@ -11,7 +11,7 @@ pub enum MonitorFault {
     Spent = 31,
     /// a stake finds the monitor staked or rung, or a rearm finds it staked
     NotArmed = 32,
-    /// the slip is of another monitor, or of another round, than what is staked
+    /// nothing is staked, or the slip has another tag or round than what is
     Misfit = 34,
 }
 

@@ -22,9 +22,9 @@ pub struct Mixture<F: Bettor, S: Bettor> {
 
 impl<F: Bettor, S: Bettor> Model for Mixture<F, S> {
     ghost use Rattle.std.specs.Prelude.{◌≡◌};
-    ghost use Rattle.edetector.specs.Bettors.{Pair, same_table};
+    ghost use Rattle.edetector.specs.Bettors.{TwoBettors, same_table};
 
-    ghost Value = { Pair F S };
+    ghost Value = { TwoBettors F S };
 
     ghost view = { λ m. record { first = m.first; second = m.second } };
 

@@ -10,12 +10,13 @@ reckoned = record {
     nearest_is_unfair = λ h. omega (arith, h);
     adaptive_row = refl;
     mixture_row = refl;
-    sum_ledgers = refl;
-    sum_alarms = refl;
+    shiryaev_roberts_ledgers = refl;
+    shiryaev_roberts_alarms = refl;
     page_ledgers = refl;
     page_alarms = refl;
     alarms_of_two_rounds = refl;
     rounds_of_two_rounds = refl;
+    rearms_of_two_rounds = refl;
   };
   numbers = examples;
 }

@@ -1,4 +1,4 @@
--- What a table keeps that breaks no limit.
+-- What a table keeps that breaks no limit, and the largest factor of a fair row.
 use Rattle.std.specs.Prelude.{◌≡◌, ℕ, zero, suc, ◌*◌, ◌<◌, ◌≤◌, Bool, true, false, cond, not, List, [], ◌∷◌, length, sum, Some, None, slice_index, refl}
 use Rattle.std.proofs.Common.{le_of_suc-le-suc, not-suc-le-zero}
 use Rattle.std.proofs.lemmas.Bool.{and_parts, leb-true}

@@ -75,8 +75,3 @@ adaptive_law ws tally table =
           let t = tally_with tally later in
           ratios_fair (sum ws + length t) ws (tallied_weights ws t) (tallied_long 0 ws t) (omega arith) (omega (arith, tallied_sum 0 ws t, times_within 0 (length ws) t));
     }
-
--- two tallies in which each class came as often
-pub record SameCounts (t u : List ℕ) : Type 0 where
-  pub long : length t ≡ length u
-  pub each : (k : ℕ) → times k t ≡ times k u

@@ -25,7 +25,7 @@ pub const MOST_THRESHOLD: u32 = 4096;
 // After so many settled rounds a stake is refused.
 const MOST_ROUNDS: u32 = 1000000;
 
-// The ledger's step, the only place where a wealth meets a factor.
+// The ledger's step, the only place where a base meets a factor.
 fn ledger_after(base: Base, factor: Factor) -> Wealth
     requires low { base.0 ≤ (most_threshold + 1) * bet }
     requires small { factor.0 ≤ most_factor }

@@ -34,6 +34,7 @@ fn padded_weights(weights: &[Weight]) -> [Weight; MOST_CLASSES]
 }
 
 impl<const LEAST: u32> Table<LEAST> {
+    /// Refused by the first limit broken: the number of classes, then a weight, then the total.
     pub fn new(weights: &[Weight]) -> Result<Self, ValueFault>
         ensures { let ws = weights_in weights.now in
             result ≡ unless_fault (table_fault LEAST ws) ws }

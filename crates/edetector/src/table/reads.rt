@@ -14,6 +14,7 @@ impl<const LEAST: u32> Table<LEAST> {
         self.classes
     }
 
+    /// The total of all weights.
     pub fn total(&self) -> u32
         ensures { result ≡ sum self.now }
     {

@@ -1,7 +1,6 @@
 use Rattle.std.proofs.Common.{◌+◌, length, get_or, refl, ◌∙◌, arith, length-set}
 use Rattle.edetector.specs.NamedBettors.{tally_of, tally_after}
-use Rattle.edetector.specs.Lemmas.Tallies.{SameCounts}
-use Rattle.edetector.proofs.TallyReads.{tally_long, count_part, tallied_more, tally_moves, tally_stays, tally_full}
+use Rattle.edetector.proofs.TallyReads.{SameCounts, tally_long, count_part, tallied_more, tally_moves, tally_stays, tally_full}
 use Rattle.edetector.proofs.adaptive.plays.AdaptiveBettor.learn.Goals as goal
 use Rattle.edetector.proofs.adaptive.plays.AdaptiveBettor.learn.Goals.{Joined-else-class-classes, else-class-classes-via-then-class-classes+else-self-lt-MOST_TALLIED, else-class-classes-via-else-class-classes}
 
