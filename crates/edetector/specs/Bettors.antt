@@ -21,8 +21,7 @@ pub record IsBettor (m : Meaning) : Type 0 where
 abbrev pub meaning_after : Meaning → ℕ → Meaning
 meaning_after m k = if nat_lt k (length m.nulls) then record m { strategy = λ later. m.strategy (k ∷ later) } else m
 
--- the likelihood ratio (a / v) : (w / n) of a class with alternative weight a out of v and null weight w out of n,
--- in parts of the unit factor
+-- a class's likelihood ratio, in parts of the unit factor: alternative weight a out of v, to null weight w out of n
 abbrev pub ratio : ℕ → ℕ → ℕ → ℕ → ℕ
 ratio n v w a = (unit_factor * a * n) / (v * w)
 

@@ -44,8 +44,7 @@ abbrev pub weight_of : List (List ℕ) → List ℕ → ℕ
 weight_of (ws ∷ tables) (k ∷ classes) = slice_index ws k * weight_of tables classes
 weight_of _ _ = 1
 
--- the sum, over all sequences of h classes, of a sequence's weight by the null table × how many answers of the plan's run
--- from s pass a test
+-- summed over all sequences of h classes: weight by the null table × how many answers of the plan's run from s pass a test
 abbrev pub weighted_count : (Answer → Bool) → Terms → Standing → Plan → ℕ → ℕ
 weighted_count test t s plan h =
     sum_by (λ classes. weight_of (replicate h t.nulls) classes * count_by test (run t plan s classes)) (sequences (length t.nulls) h)
