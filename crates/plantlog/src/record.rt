@@ -3,7 +3,6 @@ ghost use Rattle.std.specs.Prelude.{◌≡◌};
 ghost use Rattle.plantlog.specs.Choices.{rule_number, bettor_number, kind_number, NamesRule, NamesBettor};
 
 use super::fault::RecordFault;
-use super::judge::JudgedCount;
 use edetector::table::{AlternativeTable, NullTable};
 
 // The restart rule that a setup names.
