@@ -16,9 +16,9 @@ module _ (ws : List ℕ) (unbroken : null_fault ws ≡ None) (k : ℕ) where
   pub weight_some : k < length ws → 1 ≤ slice_index ws k
   weight_some h = (table_limits 1 ws unbroken).each k h
 
-module _ (ws alts : List ℕ) (level : length alts ≡ length ws) (k : ℕ) where
+module _ (ws alts : List ℕ) (same-length : length alts ≡ length ws) (k : ℕ) where
   pub factor_is : k < length ws → ratio (sum ws) (sum alts) (slice_index ws k) (slice_index alts k) ≡ slice_index ((fixed_meaning ws alts).strategy []) k
-  factor_is h = sym (ratios_at (sum ws) (sum alts) ws alts level k h)
+  factor_is h = sym (ratios_at (sum ws) (sum alts) ws alts same-length k h)
 
   pub factor_past : length ws ≤ k → 0 ≡ slice_index ((fixed_meaning ws alts).strategy []) k
-  factor_past h = sym (get_or_past ((fixed_meaning ws alts).strategy []) k 0 (omega (arith, ratios_long (sum ws) (sum alts) ws alts level)))
+  factor_past h = sym (get_or_past ((fixed_meaning ws alts).strategy []) k 0 (omega (arith, ratios_long (sum ws) (sum alts) ws alts same-length)))

@@ -4,11 +4,11 @@ use Rattle.std.proofs.Common.{sym, ap, ◌∙◌, arith, ⊎_elim}
 use Rattle.std.proofs.lemmas.Bool.{cases_lt, cond-false, cond-true, cond_both}
 use Rattle.std.proofs.lemmas.Bool.Decides.{nat_tests}
 use Rattle.edetector.specs.Bettors.{Meaning, meaning_after, same_table, averages, mixed_row, mixture_meaning}
-use Rattle.edetector.specs.Lemmas.Mixtures.{same_from, averages_at, level}
+use Rattle.edetector.specs.Lemmas.Mixtures.{same_from, averages_at, same_length}
 
 module _ (ws vs f g : List ℕ) (long-f : length f ≡ length ws) (long-g : length g ≡ length vs) where
   pub mixed_at : (k : ℕ) → same_table ws vs ≡ true → slice_index (mixed_row ws vs f g) k ≡ (slice_index f k + slice_index g k) / 2
-  mixed_at k h = ap (λ b. slice_index (cond b (averages f g) f) k) h ∙ averages_at f g (level ws vs f g long-f long-g h) k
+  mixed_at k h = ap (λ b. slice_index (cond b (averages f g) f) k) h ∙ averages_at f g (same_length ws vs f g long-f long-g h) k
 
 -- the meaning once k, which is a class, is learned
 abbrev after : Meaning → ℕ → Meaning

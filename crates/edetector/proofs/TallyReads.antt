@@ -2,6 +2,7 @@
 use Rattle.std.specs.Prelude.{◌≡◌, ℕ, zero, suc, ◌+◌, ◌-◌, ◌*◌, ◌/◌, ◌<◌, ◌≤◌, Bool, true, false, cond, List, [], ◌∷◌, ◌++◌, length, take, replicate, sum, nat_lt, ◌==◌, slice_index, slice_index_or, slice_set, refl}
 use Rattle.std.proofs.Common.{sym, ap, ap₂, ◌∙◌, append_assoc, append-nil, add-zero, le_of_suc-le-suc, not-suc-le-zero, arith, length-append}
 use mathlib.Core.Path.{fun_ext}
+use Rattle.std.specs.List.{flat_map, zip, range_with_len}
 use Rattle.std.proofs.lemmas.Bool.{cond_both}
 use Rattle.std.proofs.lemmas.Bool.Decides.{nat_tests}
 use Rattle.std.proofs.Math.Seq.{take-set-lt, take-append-add, take-append_seam}
@@ -37,31 +38,45 @@ times_other : (n i k : ℕ) → (i == k) ≡ false → times k (replicate n i) �
 times_other zero i k apart = refl
 times_other (suc n) i k apart = omega (arith, times_cons k i (replicate n i), ap (λ b. cond {A = ℕ} b 1 0) apart, times_other n i k apart)
 
-pub length_counted : (i : ℕ) (counts : List ℕ) → length (classes_counted i counts) ≡ sum counts
-length_counted i [] = refl
-length_counted i (c ∷ counts) =
-    omega (arith, length-append (replicate c i) (classes_counted (suc i) counts), length-replicate {A = ℕ} c i, length_counted (suc i) counts, sum_cons c counts)
+-- classes from i on, each as often as it was counted
+abbrev counted_from : ℕ → List ℕ → List ℕ
+counted_from i [] = []
+counted_from i (c ∷ counts) = replicate c i ++ counted_from (suc i) counts
 
-times_before : (i k : ℕ) (counts : List ℕ) → k < i → times k (classes_counted i counts) ≡ 0
+from_counted : (i : ℕ) (counts : List ℕ) → flat_map (λ p. replicate p.0 p.1) (zip counts (range_with_len i (length counts))) ≡ counted_from i counts
+from_counted i [] = refl
+from_counted i (c ∷ counts) =
+    let next : i + 1 ≡ suc i = omega arith in
+    ap (λ l. replicate c i ++ l) (from_counted (i + 1) counts ∙ ap (λ n. counted_from n counts) next)
+
+length_from : (i : ℕ) (counts : List ℕ) → length (counted_from i counts) ≡ sum counts
+length_from i [] = refl
+length_from i (c ∷ counts) =
+    omega (arith, length-append (replicate c i) (counted_from (suc i) counts), length-replicate {A = ℕ} c i, length_from (suc i) counts, sum_cons c counts)
+
+length_counted : (counts : List ℕ) → length (classes_counted counts) ≡ sum counts
+length_counted counts = ap length (from_counted 0 counts) ∙ length_from 0 counts
+
+times_before : (i k : ℕ) (counts : List ℕ) → k < i → times k (counted_from i counts) ≡ 0
 times_before i k [] h = refl
 times_before i k (c ∷ counts) h =
     let apart : (i == k) ≡ false = grind (arith, nat_tests) in
-    omega (arith, times_append k (replicate c i) (classes_counted (suc i) counts), times_other c i k apart, times_before (suc i) k counts (omega arith))
+    omega (arith, times_append k (replicate c i) (counted_from (suc i) counts), times_other c i k apart, times_before (suc i) k counts (omega arith))
 
-pub times_counted : (i j : ℕ) (counts : List ℕ) → times (i + j) (classes_counted i counts) ≡ slice_index counts j
+times_counted : (i j : ℕ) (counts : List ℕ) → times (i + j) (counted_from i counts) ≡ slice_index counts j
 times_counted i j [] = refl
 times_counted i zero (c ∷ counts) =
-    rw add-zero (omega (arith, times_append i (replicate c i) (classes_counted (suc i) counts), times_same c i, times_before (suc i) i counts (omega arith)))
+    rw add-zero (omega (arith, times_append i (replicate c i) (counted_from (suc i) counts), times_same c i, times_before (suc i) i counts (omega arith)))
 times_counted i (suc j) (c ∷ counts) =
     let apart : (i == i + suc j) ≡ false = grind (arith, nat_tests) in
     let next : i + suc j ≡ suc i + j = omega arith in
-    omega (arith, times_append (i + suc j) (replicate c i) (classes_counted (suc i) counts), times_other c i (i + suc j) apart, ap (λ n. times n (classes_counted (suc i) counts)) next, times_counted (suc i) j counts)
+    omega (arith, times_append (i + suc j) (replicate c i) (counted_from (suc i) counts), times_other c i (i + suc j) apart, ap (λ n. times n (counted_from (suc i) counts)) next, times_counted (suc i) j counts)
 
-times_at : (j : ℕ) (counts : List ℕ) → times j (classes_counted 0 counts) ≡ slice_index counts j
-times_at j counts = let same : j ≡ 0 + j = omega arith in ap (λ n. times n (classes_counted 0 counts)) same ∙ times_counted 0 j counts
+times_at : (j : ℕ) (counts : List ℕ) → times j (classes_counted counts) ≡ slice_index counts j
+times_at j counts = let same : j ≡ 0 + j = omega arith in ap (times j) (from_counted 0 counts) ∙ ap (λ n. times n (counted_from 0 counts)) same ∙ times_counted 0 j counts
 
 -- nothing is counted
-zeros_counted : (i n : ℕ) → classes_counted i (replicate n 0) ≡ []
+zeros_counted : (i n : ℕ) → counted_from i (replicate n 0) ≡ []
 zeros_counted i zero = refl
 zeros_counted i (suc n) = zeros_counted (suc i) n
 
@@ -72,8 +87,8 @@ zeros_sum (suc n) = omega (arith, zeros_sum n, sum_cons 0 (replicate n 0))
 pub sum_zeros : (n : ℕ) → n ≤ 16 → sum (take n (replicate 16 0)) ≡ 0
 sum_zeros n h = ap sum (take-replicate n 16 0 h) ∙ zeros_sum n
 
-pub tally_zeros : (n : ℕ) → n ≤ 16 → classes_counted 0 (take n (replicate 16 0)) ≡ []
-tally_zeros n h = ap (classes_counted 0) (take-replicate n 16 0 h) ∙ zeros_counted 0 n
+pub tally_zeros : (n : ℕ) → n ≤ 16 → classes_counted (take n (replicate 16 0)) ≡ []
+tally_zeros n h = ap classes_counted (take-replicate n 16 0 h) ∙ from_counted 0 (replicate n 0) ∙ zeros_counted 0 n
 
 -- a row goes by how often each class came, and by nothing else
 tallied_same : (i : ℕ) (ws t u : List ℕ) → SameCounts t u → tallied_from i ws t ≡ tallied_from i ws u
@@ -166,11 +181,11 @@ module _ (n k : ℕ) (counts : List ℕ) (h : k < n) (long : n ≤ length counts
   pub sum_more : sum (take n (slice_set counts k (slice_index counts k + 1))) ≡ sum (take n counts) + 1
   sum_more = ap sum moved ∙ sum_set (take n counts) k within
 
-  pub counts_more : SameCounts (classes_counted 0 (take n (slice_set counts k (slice_index counts k + 1)))) (classes_counted 0 (take n counts) ++ (k ∷ []))
+  pub counts_more : SameCounts (classes_counted (take n (slice_set counts k (slice_index counts k + 1)))) (classes_counted (take n counts) ++ (k ∷ []))
   counts_more =
-      let t = classes_counted 0 (take n counts) in
+      let t = classes_counted (take n counts) in
       record {
-        long = omega (arith, length_counted 0 (take n (slice_set counts k (slice_index counts k + 1))), length_counted 0 (take n counts), sum_more, length-append t (k ∷ []));
+        long = omega (arith, length_counted (take n (slice_set counts k (slice_index counts k + 1))), length_counted (take n counts), sum_more, length-append t (k ∷ []));
         each = λ j. omega (arith, times_at j (take n (slice_set counts k (slice_index counts k + 1))), ap (λ l. slice_index l j) moved, set_at (take n counts) k j within, times_at j (take n counts), times_append j t (k ∷ []), times_cons j k []);
       }
 
@@ -179,7 +194,7 @@ module _ (b : Adaptive) where
   null_limits = table_limits 1 b.null b.null_unbroken
 
   pub tally_long : length (tally_of b) ≡ b.tallied
-  tally_long = length_counted 0 (take (length b.null) b.counts) ∙ b.counted
+  tally_long = length_counted (take (length b.null) b.counts) ∙ b.counted
 
   -- the tally now is whole
   now_is : tally_with (tally_of b) [] ≡ tally_of b
@@ -214,7 +229,7 @@ module _ (b : Adaptive) where
 
   -- what a class, a number that is no class, and a class too many leave of the tally
   pub tally_moves : (k : ℕ) → k < length b.null → b.tallied < most_tallied →
-      SameCounts (classes_counted 0 (take (length b.null) (slice_set b.counts k (slice_index b.counts k + 1)))) (tally_after (length b.null) (tally_of b) k)
+      SameCounts (classes_counted (take (length b.null) (slice_set b.counts k (slice_index b.counts k + 1)))) (tally_after (length b.null) (tally_of b) k)
   tally_moves k h room =
       let t = tally_of b in
       let below : nat_lt k (length b.null) ≡ true = grind (arith, nat_tests) in

@@ -65,7 +65,7 @@ shown_slip slip count = record { stake = slip; count = count }
 abbrev pub next_slip : Standing → OpenSlip
 next_slip s = record { tag = s.tag; number = s.rounds + 1 }
 
--- a slip fits while the monitor is staked, if it is that of the round to come
+-- a slip fits while the monitor is staked, if it has the monitor's tag and the number of the round to come
 abbrev pub is_fitting : Standing → OpenSlip → Bool
 is_fitting s slip = is_staked s.state && (slip.tag == s.tag && slip.number == s.rounds + 1)
 
@@ -73,7 +73,7 @@ is_fitting s slip = is_staked s.state && (slip.tag == s.tag && slip.number == s.
 abbrev pub misfit : {S : Type 0} → S → Refused S
 misfit slip = record { fault = Misfit; slip = slip }
 
--- Stake: the bettor's row now is copied into the monitor, and a slip of the round to come is given
+-- Stake: the monitor keeps a copy of the row that the bettor plays at that time, and gives a slip of the round to come
 abbrev pub stake_outcome : Terms → Standing → Outcome (Result OpenSlip MonitorFault)
 stake_outcome t s =
     if not (is_armed s.state) then outcome (Err NotArmed) s
@@ -200,7 +200,7 @@ DoesAll {B} {R} meaning base m (c ∷ cs) (a ∷ rest) n =
     (between : Monitor B R) × Does meaning base m c a between × DoesAll meaning base between cs rest n
 DoesAll meaning base m _ _ n = ⊥
 
--- after any calls, with whatever slips, a monitor has answered, and stands, as the calls on plain data say
+-- after any calls, with whatever slips and each as its contract says, a monitor has answered, and stands, as on plain data
 abbrev pub AfterCalls : {B R : Type 0} → (B → Meaning) → (R → ℕ → ℕ) → Type 0
 AfterCalls {B} {R} meaning base = (m n : Monitor B R) (cs : List Call) (answers : List Answer) → DoesAll meaning base m cs answers n →
     (outcome answers (view meaning n) ≡ calls_outcome (terms_of meaning base m) (view meaning m) cs) × (terms_of meaning base n ≡ terms_of meaning base m)

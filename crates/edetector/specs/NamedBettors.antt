@@ -1,5 +1,6 @@
 -- The fixed and the adaptive bettor: what they are made of.
-use Rattle.std.specs.Prelude.{ℕ, suc, if◌then◌else◌, List, [], ◌∷◌, ◌++◌, length, take, replicate, Ok, Err, Result, ◌==◌, nat_lt}
+use Rattle.std.specs.Prelude.{ℕ, if◌then◌else◌, List, [], ◌∷◌, length, take, replicate, Ok, Err, Result, ◌==◌, nat_lt}
+use Rattle.std.specs.List.{flat_map, zip, range_with_len}
 use Rattle.edetector.specs.declared.fixed.Fixed.{Fixed}
 use Rattle.edetector.specs.declared.adaptive.Adaptive.{Adaptive}
 use Rattle.edetector.specs.declared.value.ValueFault.{ValueFault}
@@ -17,15 +18,14 @@ new_fixed null alternative = if length alternative == length null then Ok (null,
 abbrev pub null_of : Adaptive → List ℕ
 null_of b = b.null
 
--- classes from i on, each as often as it was counted
-abbrev pub classes_counted : ℕ → List ℕ → List ℕ
-classes_counted i [] = []
-classes_counted i (c ∷ counts) = replicate c i ++ classes_counted (suc i) counts
+-- each class as often as it was counted
+abbrev pub classes_counted : List ℕ → List ℕ
+classes_counted counts = flat_map (λ p. replicate p.0 p.1) (zip counts (range_with_len 0 (length counts)))
 
 -- the classes that an adaptive bettor has tallied. Its rows do not go by the order in which they came, and it keeps none:
 -- they are seen in ascending order
 abbrev pub tally_of : Adaptive → List ℕ
-tally_of b = classes_counted 0 (take (length b.null) b.counts)
+tally_of b = classes_counted (take (length b.null) b.counts)
 
 -- the tally once k is learned, out of so many classes
 abbrev pub tally_after : ℕ → List ℕ → ℕ → List ℕ

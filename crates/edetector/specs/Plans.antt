@@ -39,7 +39,7 @@ abbrev pub sequences : ℕ → ℕ → List (List ℕ)
 sequences n zero = [] ∷ []
 sequences n (suc h) = flat_map (λ k. map (λ ks. k ∷ ks) (sequences n h)) (range_with_len 0 n)
 
--- how much a sequence weighs: its classes' weights multiplied, each looked up in the table of its place
+-- how much a sequence weighs: its classes' weights multiplied, each from the table of its place, or 1 past the last table
 abbrev pub weight_of : List (List ℕ) → List ℕ → ℕ
 weight_of (ws ∷ tables) (k ∷ classes) = slice_index ws k * weight_of tables classes
 weight_of _ _ = 1

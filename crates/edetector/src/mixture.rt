@@ -74,7 +74,7 @@ impl<F: Bettor, S: Bettor> Mixture<F, S> {
         ensures value { let ws = (F.meaning self.now.first).nulls in
             let vs = (S.meaning self.now.second).nulls in
             result ≡ (if same_table ws vs then Ok tt else Err NullTables) }
-        ensures told { let ws = (F.meaning self.now.first).nulls in
+        ensures equal { let ws = (F.meaning self.now.first).nulls in
             let vs = (S.meaning self.now.second).nulls in
             IsOk result ↔ (ws ≡ vs) }
     {

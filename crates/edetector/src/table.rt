@@ -49,5 +49,5 @@ impl<const LEAST: u32> Model for Table<LEAST> {
 /// How often each class comes on a sound line. No weight is 0.
 pub type NullTable = Table<1>;
 
-/// How often each class would come on a worn line. A weight may be 0, but the total is at least 1.
+/// How often each class would come on a worn line. Some weights may be 0, but not all.
 pub type AlternativeTable = Table<0>;

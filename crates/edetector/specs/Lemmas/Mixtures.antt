@@ -50,16 +50,16 @@ averages_fair ws f g long e p q =
     fair_from_class ws (averages f g) (averages_long f g e ∙ long) (omega (arith, up, weigh_scale ws 0 2 m, weigh_add ws 0 x y, fair-f, fair-g))
 
 module _ (ws vs f g : List ℕ) (long-f : length f ≡ length ws) (long-g : length g ≡ length vs) where
-  pub level : same_table ws vs ≡ true → length f ≡ length g
-  level h = long-f ∙ ap length (same_from ws vs h) ∙ sym long-g
+  pub same_length : same_table ws vs ≡ true → length f ≡ length g
+  same_length h = long-f ∙ ap length (same_from ws vs h) ∙ sym long-g
 
   pub mixed_long : length (mixed_row ws vs f g) ≡ length ws
-  mixed_long = cond_both (same_table ws vs) (averages f g) f (λ r. length r ≡ length ws) (λ h. averages_long f g (level h) ∙ long-f) (λ h. long-f)
+  mixed_long = cond_both (same_table ws vs) (averages f g) f (λ r. length r ≡ length ws) (λ h. averages_long f g (same_length h) ∙ long-f) (λ h. long-f)
 
   pub mixed_fair : IsFair ws f → IsFair vs g → IsFair ws (mixed_row ws vs f g)
   mixed_fair p q =
       cond_both (same_table ws vs) (averages f g) f (λ r. IsFair ws r)
-      (λ h. averages_fair ws f g long-f (level h) p (subst (λ (t : List ℕ). IsFair t g) (sym (same_from ws vs h)) q)) (λ h. p)
+      (λ h. averages_fair ws f g long-f (same_length h) p (subst (λ (t : List ℕ). IsFair t g) (sym (same_from ws vs h)) q)) (λ h. p)
 
 -- what a mixture keeps follows from what its two bettors keep
 pub mixture_law : (first second : Meaning) → IsBettor first → IsBettor second → IsBettor (mixture_meaning first second)

@@ -37,8 +37,8 @@ ratios_fair v ws alts e pos h =
 
 -- what a fixed bettor keeps
 pub fixed_law : (ws alts : List ℕ) → null_fault ws ≡ None → alternative_fault alts ≡ None → length alts ≡ length ws → IsBettor (fixed_meaning ws alts)
-fixed_law ws alts table alternative level = record {
+fixed_law ws alts table alternative same-length = record {
   table = table;
-  factors = λ later. ratios_long (sum ws) (sum alts) ws alts level;
-  fair = λ later. ratios_fair (sum alts) ws alts level (table_limits 0 alts alternative).positive (omega arith);
+  factors = λ later. ratios_long (sum ws) (sum alts) ws alts same-length;
+  fair = λ later. ratios_fair (sum alts) ws alts same-length (table_limits 0 alts alternative).positive (omega arith);
 }

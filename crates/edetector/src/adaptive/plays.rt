@@ -61,7 +61,7 @@ impl Bettor for Adaptive {
         ensures tallied { let classes = length (null_of self.old) in
             let tally = tally_after classes (tally_of self.old) class in
             length (tally_of self.new) ≡ length tally }
-        ensures none { length (null_of self.old) ≤ class → self.new ≡ self.old }
+        ensures same { length (null_of self.old) ≤ class → self.new ≡ self.old }
         ensures full { most_tallied ≤ length (tally_of self.old) → self.new ≡ self.old }
     {
         if class < self.null.classes() && self.tallied < MOST_TALLIED {

@@ -38,7 +38,7 @@ fn ledger_after(base: Base, factor: Factor) -> Wealth
 
 impl<B: Bettor, R: RestartRule> Monitor<B, R> {
     /// Refused where the threshold is not 1 to 4,096. Whatever the bettor, the rule and the plan of calls, the alarms are
-    /// bounded; and after any calls a monitor has answered, and stands, as the calls one by one say.
+    /// bounded; and what any calls in a row answer and leave follows from what each call promises.
     pub fn new(bettor: B, rule: R, threshold: u32, tag: u32) -> Result<Monitor<B, R>, Unmade<B, R>>
         ensures made { result_map_both (whole_view B.meaning R.base) (λ e. e) result
             ≡ new_monitor B.meaning R.base bettor rule threshold tag }

@@ -17,9 +17,9 @@ returns c =
     let long-f : length (factors_in f) ≡ 16 = omega (arith, length-map f (λ e. e.0)) in
     let long-g : length (factors_in g) ≡ 16 = omega (arith, length-map g (λ e. e.0)) in
     let long-row : length (factors_in row) ≡ 16 = omega (arith, length-map row (λ e. e.0), made.long) in
-    let level : length (factors_in f) ≡ length (factors_in g) = omega arith in
+    let same-length : length (factors_in f) ≡ length (factors_in g) = omega arith in
     let each =
     made_each _ (λ s. (s.0.now ≡ f) × (s.1.now ≡ g)) (λ k y. y.0 ≡ ((get_or f k (record { 0 = 0 })).0 + (get_or g k (record { 0 = 0 })).0) / 2)
     (λ s k y q same called. search rules) _ row 0 16 (refl, refl) made.each in
-    ext_get_or 0 (factors_in row) (averages (factors_in f) (factors_in g)) (omega (arith, averages_long (factors_in f) (factors_in g) level))
-    (λ k h. sym (factor_at row k) ∙ each k (record { 0 = 0 }) (omega arith) (omega arith) ∙ ap₂ (λ x y. (x + y) / 2) (factor_at f k) (factor_at g k) ∙ sym (averages_at (factors_in f) (factors_in g) level k))
+    ext_get_or 0 (factors_in row) (averages (factors_in f) (factors_in g)) (omega (arith, averages_long (factors_in f) (factors_in g) same-length))
+    (λ k h. sym (factor_at row k) ∙ each k (record { 0 = 0 }) (omega arith) (omega arith) ∙ ap₂ (λ x y. (x + y) / 2) (factor_at f k) (factor_at g k) ∙ sym (averages_at (factors_in f) (factors_in g) same-length k))

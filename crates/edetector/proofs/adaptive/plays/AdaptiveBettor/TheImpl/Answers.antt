@@ -10,5 +10,5 @@ learn-tells c =
     let after = c.new.self.now in
     record {
       step = ap (λ ws. adaptive_meaning ws (tally_of after)) c.ensures.table ∙ adaptive_learns b.null (tally_of b) (tally_of after) c.args.class (omega (arith, tally_long after, after.within)) (record { long = c.ensures.tallied; each = c.ensures.times });
-      same = c.ensures.none;
+      same = c.ensures.same;
     }

@@ -27,7 +27,7 @@ returns-then-self-lt-MOST_TALLIED c =
       table = refl;
       times = counts.each;
       tallied = counts.long;
-      none = λ past. absurd (omega arith);
+      same = λ past. absurd (omega arith);
       full = λ all. absurd (omega (arith, tally_long b));
     }
 
