@@ -20,10 +20,10 @@ most_rounds = 1000000
 
 abbrev pub state_of : Phase → State
 state_of Armed = state.Armed
-state_of (Staked stake) = state.Staked
+state_of (Staked row) = state.Staked
 state_of Rung = state.Rung
 
 -- the staked row of a table with so many classes; there is none unless the monitor is staked
 abbrev pub row_in : Phase → ℕ → List ℕ
-row_in (Staked stake) classes = take classes (factors_in stake.row)
+row_in (Staked staked) classes = take classes (factors_in staked.row)
 row_in _ classes = []

@@ -31,7 +31,10 @@ pub(super) fn count<B: Bettor, R: RestartRule>(
 ) -> Result<(), ReplayFault>
     requires count { of_ok kind_of (next_fields records.old.left) ≡ Ok (ACount day) }
     requires rises { Rising (watch_of (view B.meaning monitor.old) records.old books.old) }
-    ensures does { done result (watch_of (view B.meaning monitor.new) records.new books.new) ≡ count_read (terms_of B.meaning R.base monitor.old) (places_lent books.old) (watch_of (view B.meaning monitor.old) records.old books.old) records.old.at.number day (count_next (next_fields records.old.left)) }
+    ensures does { done result (watch_of (view B.meaning monitor.new) records.new books.new)
+        ≡ count_read (terms_of B.meaning R.base monitor.old) (places_lent books.old)
+        (watch_of (view B.meaning monitor.old) records.old books.old) records.old.at.number
+        day (count_next (next_fields records.old.left)) }
     ensures moved { records.new ≡ moved_if result (behind_count day records.old) records.old }
     ensures terms { terms_of B.meaning R.base monitor.new ≡ terms_of B.meaning R.base monitor.old }
     ensures kept { KeepsBooks books.old books.new }

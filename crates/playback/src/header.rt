@@ -77,7 +77,8 @@ fn next<T: HeaderRecord>(records: &mut Records<'_>) -> Result<T, ReplayFault>
 
 // The next record, which has to be a T, or the fault where it begins.
 pub(super) fn header<T: HeaderRecord>(records: &mut Records<'_>) -> Result<T, Fault>
-    ensures value { result ≡ at_spot records.old.at (and_then (next_fields records.old.left) T.only) }
+    ensures value { result
+        ≡ at_spot records.old.at (and_then (next_fields records.old.left) T.only) }
     ensures moved { OnOk result (records.new ≡ behind_record records.old) }
 {
     let at = records.spot();

@@ -17,7 +17,12 @@ use daybook::line::setup::MonitorLine;
 use std::alloc::{AllocError, Global};
 
 impl From<Run> for MonitorLine {
-    ghost from_gives = { λ run line. line ≡ record { classes = run.classes; total = run.total; threshold = run.threshold; rule = run.rule } };
+    ghost from_gives = { λ run line. line ≡ record {
+      classes = run.classes;
+      total = run.total;
+      threshold = run.threshold;
+      rule = run.rule;
+    } };
 
     fn from(run: Run) -> MonitorLine {
         MonitorLine {
@@ -40,7 +45,12 @@ fn put_monitor(out: &mut String, report: &Result<Run, Fault>) -> Result<(), Allo
 }
 
 impl From<Fault> for FaultLine {
-    ghost from_gives = { λ fault line. line ≡ record { number = stop_number fault.cause; «record» = fault.«record»; byte = fault.byte; layer = stop_layer fault.cause } };
+    ghost from_gives = { λ fault line. line ≡ record {
+      number = stop_number fault.cause;
+      «record» = fault.«record»;
+      byte = fault.byte;
+      layer = stop_layer fault.cause;
+    } };
 
     fn from(fault: Fault) -> FaultLine {
         FaultLine {
@@ -102,7 +112,8 @@ pub fn listing(
 
 // A log's listing, with 64 places in each book.
 pub fn listed(alloc: Global, log: &[u8]) -> Result<String, AllocError>
-    ensures { IfOk result (λ s. string_bytes s ≡ listing_of (replay_of (record { alarms = 64; unwatched = 64 }) log.now)) }
+    ensures { IfOk result (λ s. string_bytes s
+        ≡ listing_of (replay_of (record { alarms = 64; unwatched = 64 }) log.now)) }
 {
     let mut alarm_places = [Alarm::default(); 64];
     let mut unwatched_places = [Unwatched::default(); 64];

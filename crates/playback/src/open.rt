@@ -35,7 +35,8 @@ fn run<B: Bettor + Drop>(
     requires table { (B.meaning bettor).nulls ≡ null }
     requires begins { NothingYet records books.old }
     ensures value { replay_told result books.new.alarms.now books.new.unwatched.now
-        ≡ monitored (places_lent books.old) setup (B.meaning bettor) (stream_of records.entry.left) records.entry.at }
+        ≡ monitored (places_lent books.old) setup (B.meaning bettor)
+        (stream_of records.entry.left) records.entry.at }
     ensures kept { KeepsBooks books.old books.new }
 {
     let at = records.spot();
@@ -55,7 +56,8 @@ fn run<B: Bettor + Drop>(
 
 // The fixed bettor of the alternative in front.
 fn fixed(null: NullTable, records: &mut Records<'_>) -> Result<Fixed, Fault>
-    ensures value { of_ok (λ b. (tables_of b).1) result ≡ at_spot records.old.at (alternative_for null records.old.left) }
+    ensures value { of_ok (λ b. (tables_of b).1) result
+        ≡ at_spot records.old.at (alternative_for null records.old.left) }
     ensures table { IfOk result (λ b. (tables_of b).0 ≡ null) }
     ensures moved { OnOk result (records.new ≡ behind_record records.old) }
 {
@@ -67,7 +69,8 @@ fn fixed(null: NullTable, records: &mut Records<'_>) -> Result<Fixed, Fault>
 // A log from its first record on.
 pub(super) fn open(mut records: Records<'_>, books: &mut Books<'_, '_, '_>) -> Result<Run, Fault>
     requires begins { NothingYet records books.old }
-    ensures value { replay_told result books.new.alarms.now books.new.unwatched.now ≡ replayed (places_lent books.old) (stream_of records.entry.left) records.entry.at }
+    ensures value { replay_told result books.new.alarms.now books.new.unwatched.now
+        ≡ replayed (places_lent books.old) (stream_of records.entry.left) records.entry.at }
     ensures kept { KeepsBooks books.old books.new }
 {
     let null = header::<NullTable>(&mut records)?;

@@ -27,7 +27,8 @@ pub fn replay(
     alarms: &mut Book<'_, Alarm>,
     unwatched: &mut Book<'_, Unwatched>,
 ) -> Result<Run, Fault>
-    ensures value { replay_told result alarms.new unwatched.new ≡ replay_of (places_in alarms.old unwatched.old) log.now }
+    ensures value { replay_told result alarms.new unwatched.new
+        ≡ replay_of (places_in alarms.old unwatched.old) log.now }
     ensures kept { Keeps alarms.old alarms.new × Keeps unwatched.old unwatched.new }
     ensures accepts { NoFault result → Accepted log.now }
     ensures takes { Takes }

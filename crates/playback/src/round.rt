@@ -29,7 +29,9 @@ fn settle_shown<B: Bettor, R: RestartRule>(
     requires fits { is_fitting (view B.meaning monitor.old) slip.stake ≡ true }
     requires room { all_used (places_of alarms.old) (entries_of alarms.old) ≡ false }
     requires rises { above_in (λ a. a.day) (entries_of alarms.old) day ≡ true }
-    ensures does { leads result (view B.meaning monitor.new) (entries_of alarms.new) ≡ settled_slip (terms_of B.meaning R.base monitor.old) (view B.meaning monitor.old) (entries_of alarms.old) day slip }
+    ensures does { leads result (view B.meaning monitor.new) (entries_of alarms.new)
+        ≡ settled_slip (terms_of B.meaning R.base monitor.old) (view B.meaning monitor.old)
+        (entries_of alarms.old) day slip }
     ensures ok { result ≡ Ok tt }
     ensures terms { terms_of B.meaning R.base monitor.new ≡ terms_of B.meaning R.base monitor.old }
     ensures kept { Grows alarms.old alarms.new }
@@ -61,7 +63,9 @@ pub(super) fn watch_count<B: Bettor, R: RestartRule>(
     requires count { of_ok kind_of (next_fields records.old.left) ≡ Ok (ACount day) }
     requires room { all_used (places_of alarms.old) (entries_of alarms.old) ≡ false }
     requires rises { above_in (λ a. a.day) (entries_of alarms.old) day ≡ true }
-    ensures does { leads result (view B.meaning monitor.new) (entries_of alarms.new) ≡ watched (terms_of B.meaning R.base monitor.old) (view B.meaning monitor.old) (entries_of alarms.old) day (count_next (next_fields records.old.left)) }
+    ensures does { leads result (view B.meaning monitor.new) (entries_of alarms.new)
+        ≡ watched (terms_of B.meaning R.base monitor.old) (view B.meaning monitor.old)
+        (entries_of alarms.old) day (count_next (next_fields records.old.left)) }
     ensures moved { records.new ≡ moved_if result (behind_count day records.old) records.old }
     ensures terms { terms_of B.meaning R.base monitor.new ≡ terms_of B.meaning R.base monitor.old }
     ensures kept { Grows alarms.old alarms.new }

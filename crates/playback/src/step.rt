@@ -20,7 +20,8 @@ pub(super) fn rearm<B: Bettor, R: RestartRule>(
     monitor: &mut Monitor<B, R>,
 ) -> Result<(), ReplayFault>
     requires { of_ok kind_of (next_fields records.old.left) ≡ Ok ARearm }
-    ensures does { outcome result (view B.meaning monitor.new) ≡ rearm_leads (terms_of B.meaning R.base monitor.old) (view B.meaning monitor.old) }
+    ensures does { outcome result (view B.meaning monitor.new)
+        ≡ rearm_leads (terms_of B.meaning R.base monitor.old) (view B.meaning monitor.old) }
     ensures moved { records.new ≡ behind_record records.old }
     ensures terms { terms_of B.meaning R.base monitor.new ≡ terms_of B.meaning R.base monitor.old }
 {
@@ -32,7 +33,8 @@ pub(super) fn rearm<B: Bettor, R: RestartRule>(
 // The end names the number of counts before it.
 pub(super) fn end(records: &mut Records<'_>) -> Result<(), ReplayFault>
     requires { of_ok kind_of (next_fields records.old.left) ≡ Ok AnEnd }
-    ensures value { result ≡ end_answer records.old.counts (end_next (next_fields records.old.left)) }
+    ensures value { result
+        ≡ end_answer records.old.counts (end_next (next_fields records.old.left)) }
     ensures moved { records.new ≡ behind_record records.old }
 {
     let Record::End(n) = records.read()? else {

@@ -26,8 +26,11 @@ fn step<B: Bettor, R: RestartRule>(
     books: &mut Books<'_, '_, '_>,
 ) -> Result<bool, ReplayFault>
     requires { Rising (watch_of (view B.meaning monitor.old) records.old books.old) }
-    ensures does { Stepped (terms_of B.meaning R.base monitor.old) (places_lent books.old) records.old (watch_of (view B.meaning monitor.old) records.old books.old) result records.new (watch_of (view B.meaning monitor.new) records.new books.new) }
-    ensures goes { IfOn result (GoesOn records.old records.new (watch_of (view B.meaning monitor.new) records.new books.new)) }
+    ensures does { Stepped (terms_of B.meaning R.base monitor.old) (places_lent books.old)
+        records.old (watch_of (view B.meaning monitor.old) records.old books.old) result
+        records.new (watch_of (view B.meaning monitor.new) records.new books.new) }
+    ensures goes { IfOn result (GoesOn records.old records.new
+        (watch_of (view B.meaning monitor.new) records.new books.new)) }
     ensures terms { terms_of B.meaning R.base monitor.new ≡ terms_of B.meaning R.base monitor.old }
     ensures kept { KeepsBooks books.old books.new }
 {
@@ -56,7 +59,9 @@ pub(super) fn watch<B: Bettor, R: RestartRule>(
     books: &mut Books<'_, '_, '_>,
 ) -> Option<Fault>
     requires { NothingYet records.old books.old }
-    ensures value { stopped (watch_of (view B.meaning monitor.new) records.new books.new) result ≡ comes_to (terms_of B.meaning R.base monitor.old) (places_lent books.old) records.old (watch_of (view B.meaning monitor.old) records.old books.old) }
+    ensures value { stopped (watch_of (view B.meaning monitor.new) records.new books.new) result
+        ≡ comes_to (terms_of B.meaning R.base monitor.old) (places_lent books.old) records.old
+        (watch_of (view B.meaning monitor.old) records.old books.old) }
     ensures kept { KeepsBooks books.old books.new }
 {
     loop {

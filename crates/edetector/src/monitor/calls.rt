@@ -92,18 +92,18 @@ impl<B: Bettor, R: RestartRule> Monitor<B, R> {
         ensures refused { OnErr result (self.new ≡ self.old) }
     {
         let k = class_of(self.bettor.classes(), slip.count);
-        let Some(stake) = self.stake_for(&slip.stake) else {
+        let Some(row) = self.row_for(&slip.stake) else {
             return Err(Refused {
                 fault: MonitorFault::Misfit,
                 slip,
             });
         };
-        let factor = stake.factor(k);
+        let factor = row.factor(k);
         let ShownSlip {
-            stake: spent,
+            stake: open,
             count: _,
         } = slip;
-        let OpenSlip { tag: _, number: _ } = spent;
+        let OpenSlip { tag: _, number: _ } = open;
         self.ledger = ledger_after(self.rule.restart(self.ledger), factor);
         self.bettor.learn(k);
         self.rounds += 1;
@@ -124,7 +124,7 @@ impl<B: Bettor, R: RestartRule> Monitor<B, R> {
         ensures rule { rule_of self.new ≡ rule_of self.old }
         ensures refused { OnErr result (self.new ≡ self.old) }
     {
-        if self.stake_for(&slip).is_none() {
+        if self.row_for(&slip).is_none() {
             return Err(Refused {
                 fault: MonitorFault::Misfit,
                 slip,
@@ -162,14 +162,14 @@ impl<B: Bettor, R: RestartRule> Monitor<B, R> {
         }
     }
 
-    // The stake that a slip belongs to, if it is out.
-    fn stake_for(&self, slip: &OpenSlip) -> Option<&StakedRow>
+    // The row of the stake that a slip belongs to, if it is out.
+    fn row_for(&self, slip: &OpenSlip) -> Option<&StakedRow>
         ensures fits { IsSome result ↔ IsTrue (is_fitting (view B.meaning self.now) slip.now) }
-        ensures staked { IfSome result (λ stake. self.now.phase ≡ Staked stake.now) }
+        ensures staked { IfSome result (λ row. self.now.phase ≡ Staked row.now) }
     {
         match &self.phase {
-            Phase::Staked(stake) if slip.tag == self.tag && slip.number == self.rounds + 1 => Some(
-                stake,
+            Phase::Staked(row) if slip.tag == self.tag && slip.number == self.rounds + 1 => Some(
+                row,
             ),
             _ => None,
         }
