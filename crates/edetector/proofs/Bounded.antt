@@ -9,7 +9,7 @@ use Rattle.edetector.specs.Tables.{class_of}
 use Rattle.edetector.specs.Rules.{bet, IsRestartRule}
 use Rattle.edetector.specs.Bettors.{Meaning, IsBettor}
 use Rattle.edetector.specs.States.{is_staked}
-use Rattle.edetector.specs.Monitors.{Terms, Standing, terms, first_standing, after_settle, rings, ledger_after, is_round, is_alarm}
+use Rattle.edetector.specs.Monitors.{Terms, Standing, terms, first_standing, standing_after, is_ringing, ledger_after, is_round, is_alarm}
 use Rattle.edetector.specs.Plans.{Plan, run, Bound}
 use Rattle.edetector.specs.Lemmas.Sums.{weigh, fair_by_class, weigh_mono, weigh_add, weigh_scale}
 use Rattle.edetector.proofs.Weighing.{weigh_same, weigh_within, weigh_const, fair_step}
@@ -67,10 +67,10 @@ module _ (t : Terms) (p : Plan) (rule : IsRestartRule t.base) where
   -- a settle of class k, with what is counted behind it
   abbrev counted : (Standing → List ℕ → List ℕ → ℕ) → (ℕ → ℕ) → Standing → List ℕ → ℕ → ℕ → ℕ
   counted f here m past h k =
-      let c = class_of (length t.nulls) k in over_all (replicate h t.nulls) (λ ks. here c + f (after_settle t m c) (past ++ (k ∷ [])) ks)
+      let c = class_of (length t.nulls) k in over_all (replicate h t.nulls) (λ ks. here c + f (standing_after t m c) (past ++ (k ∷ [])) ks)
 
   abbrev alarm_here : Standing → ℕ → ℕ
-  alarm_here m c = cond (rings t m c) 1 0
+  alarm_here m c = cond (is_ringing t m c) 1 0
 
   abbrev alarms : Standing → List ℕ → List ℕ → ℕ
   alarms s past ks = count_by is_alarm (answers_from t p s past ks)
@@ -79,7 +79,7 @@ module _ (t : Terms) (p : Plan) (rule : IsRestartRule t.base) where
   rounds s past ks = count_by is_round (answers_from t p s past ks)
 
   -- the same, once the calls before the next settlement have left m, staked
-  from_staked : (h : ℕ) (m : Standing) (past : List ℕ) → FairRow t.nulls m.row → ((k : ℕ) → Holds h (after_settle t m (class_of (length t.nulls) k)) (past ++ (k ∷ []))) →
+  from_staked : (h : ℕ) (m : Standing) (past : List ℕ) → FairRow t.nulls m.row → ((k : ℕ) → Holds h (standing_after t m (class_of (length t.nulls) k)) (past ++ (k ∷ []))) →
       (t.threshold * bet) * weigh t.nulls 0 (counted alarms (alarm_here m) m past h)
       ≤ bet * weigh t.nulls 0 (counted rounds (λ c. 1) m past h) + mass (replicate (suc h) t.nulls) * m.ledger
   from_staked h m past fair ih =
@@ -88,12 +88,12 @@ module _ (t : Terms) (p : Plan) (rule : IsRestartRule t.base) where
       let n = mass (replicate h ws) in
       let clamped : ℕ → ℕ = λ k. ledger_after t m (class_of (length t.nulls) k) in
       let same-ledger : weigh ws 0 clamped ≡ weigh ws 0 (ledger_after t m) = weigh_within ws 0 clamped (ledger_after t m) (λ k l. ap (ledger_after t m) (omega arith)) in
-      let al : ℕ → ℕ = λ k. alarms_from t p (after_settle t m (class_of (length t.nulls) k)) (past ++ (k ∷ [])) h in
-      let ro : ℕ → ℕ = λ k. rounds_from t p (after_settle t m (class_of (length t.nulls) k)) (past ++ (k ∷ [])) h in
+      let al : ℕ → ℕ = λ k. alarms_from t p (standing_after t m (class_of (length t.nulls) k)) (past ++ (k ∷ [])) h in
+      let ro : ℕ → ℕ = λ k. rounds_from t p (standing_after t m (class_of (length t.nulls) k)) (past ++ (k ∷ [])) h in
       let c : ℕ → ℕ = λ k. alarm_here m (class_of (length t.nulls) k) in
-      let each : (k : ℕ) → a * (c k * n + al k) ≤ bet * ro k + n * clamped k = λ k. one_class a bet (c k) (al k) (ro k) n (potential t (after_settle t m (class_of (length t.nulls) k))) (clamped k) (ih k) (paid a (clamped k)) in
-      let alarms-are = weigh_same ws 0 (counted alarms (alarm_here m) m past h) (λ k. c k * n + al k) (λ k. over_plus (replicate h ws) (c k) (alarms (after_settle t m (class_of (length t.nulls) k)) (past ++ (k ∷ [])))) in
-      let rounds-are = weigh_same ws 0 (counted rounds (λ x. 1) m past h) (λ k. 1 * n + ro k) (λ k. over_plus (replicate h ws) 1 (rounds (after_settle t m (class_of (length t.nulls) k)) (past ++ (k ∷ [])))) in
+      let each : (k : ℕ) → a * (c k * n + al k) ≤ bet * ro k + n * clamped k = λ k. one_class a bet (c k) (al k) (ro k) n (potential t (standing_after t m (class_of (length t.nulls) k))) (clamped k) (ih k) (paid a (clamped k)) in
+      let alarms-are = weigh_same ws 0 (counted alarms (alarm_here m) m past h) (λ k. c k * n + al k) (λ k. over_plus (replicate h ws) (c k) (alarms (standing_after t m (class_of (length t.nulls) k)) (past ++ (k ∷ [])))) in
+      let rounds-are = weigh_same ws 0 (counted rounds (λ x. 1) m past h) (λ k. 1 * n + ro k) (λ k. over_plus (replicate h ws) 1 (rounds (standing_after t m (class_of (length t.nulls) k)) (past ++ (k ∷ [])))) in
       let summed : weigh ws 0 (λ k. a * (c k * n + al k)) ≤ weigh ws 0 (λ k. bet * ro k + n * clamped k) = weigh_mono ws 0 (λ k. a * (c k * n + al k)) (λ k. bet * ro k + n * clamped k) each in
       let left : weigh ws 0 (λ k. a * (c k * n + al k)) ≡ a * weigh ws 0 (λ k. c k * n + al k) = weigh_scale ws 0 a (λ k. c k * n + al k) in
       let right : weigh ws 0 (λ k. bet * ro k + n * clamped k) ≡ bet * weigh ws 0 ro + n * weigh ws 0 clamped =
@@ -105,9 +105,9 @@ module _ (t : Terms) (p : Plan) (rule : IsRestartRule t.base) where
   -- the same, where a plan's calls have left m in the state st
   abbrev counted_if : Bool → (Standing → List ℕ → List ℕ → ℕ) → (ℕ → ℕ) → Standing → List ℕ → ℕ → ℕ → ℕ
   counted_if b f here m past h k =
-      let c = class_of (length t.nulls) k in over_all (replicate h t.nulls) (λ ks. cond b (here c + f (after_settle t m c) (past ++ (k ∷ [])) ks) 0)
+      let c = class_of (length t.nulls) k in over_all (replicate h t.nulls) (λ ks. cond b (here c + f (standing_after t m c) (past ++ (k ∷ [])) ks) 0)
 
-  by_state : (h : ℕ) (m : Standing) (past : List ℕ) (st : State) → row_fair t.nulls st m.row → ((k : ℕ) → Holds h (after_settle t m (class_of (length t.nulls) k)) (past ++ (k ∷ []))) →
+  by_state : (h : ℕ) (m : Standing) (past : List ℕ) (st : State) → row_fair t.nulls st m.row → ((k : ℕ) → Holds h (standing_after t m (class_of (length t.nulls) k)) (past ++ (k ∷ []))) →
       (t.threshold * bet) * weigh t.nulls 0 (counted_if (is_staked st) alarms (alarm_here m) m past h)
       ≤ bet * weigh t.nulls 0 (counted_if (is_staked st) rounds (λ c. 1) m past h) + mass (replicate (suc h) t.nulls) * potential_at (t.threshold * bet) st m.ledger
   by_state h m past Armed fair ih = rw (over_none (replicate (suc h) t.nulls), mul-zero) (omega arith)
@@ -121,7 +121,7 @@ module _ (t : Terms) (p : Plan) (rule : IsRestartRule t.base) where
       let m = before_settle t p s past in
       let kept = all_kept t s (p past) ok in
       let more = mul-le-mul_left (mass (replicate (suc h) ws)) kept.1 in
-      let step = by_state h m past m.state kept.0.1 (λ k. holds h (after_settle t m (class_of (length ws) k)) (past ++ (k ∷ [])) ((λ later. kept.0.0 (class_of (length ws) k ∷ later)), not_staked ws [] (rings t m (class_of (length ws) k)))) in
+      let step = by_state h m past m.state kept.0.1 (λ k. holds h (standing_after t m (class_of (length ws) k)) (past ++ (k ∷ [])) ((λ later. kept.0.0 (class_of (length ws) k ∷ later)), not_staked ws [] (is_ringing t m (class_of (length ws) k)))) in
       let alarms-are : alarms_from t p s past (suc h) ≡ weigh ws 0 (counted_if (is_staked m.state) alarms (alarm_here m) m past h) =
       weigh_same ws 0 _ _ (λ k. over_same (replicate h ws) _ _ (λ ks. run_more is_alarm only_alarms t p s past k ks)) in
       let rounds-are : rounds_from t p s past (suc h) ≡ weigh ws 0 (counted_if (is_staked m.state) rounds (λ c. 1) m past h) =

@@ -12,9 +12,9 @@ use Rattle.edetector.specs.Lemmas.Sums.{weigh}
 use Rattle.edetector.specs.Rules.{bet}
 use Rattle.edetector.specs.States.{most_rounds}
 use Rattle.edetector.specs.Bettors.{Strategy}
-use Rattle.edetector.specs.Monitors.{Terms, Standing, Outcome, outcome, next_slip, is_fitting, rings, after_settle, settle_outcome, Call, Stake, Settle, Withdraw, Rearm, Read, call_outcome, calls_outcome}
+use Rattle.edetector.specs.Monitors.{Terms, Standing, Outcome, outcome, next_slip, is_fitting, is_ringing, standing_after, settle_outcome, Call, Stake, Settle, Withdraw, Rearm, Read, call_outcome, calls_outcome}
 use Rattle.edetector.proofs.Standings.{after_stake, after_withdraw, standing, handed_back}
-use Rattle.edetector.specs.Plans.{settles, plan_calls}
+use Rattle.edetector.specs.Plans.{is_settling, plan_calls}
 
 abbrev pub potential_at : ℕ → State → ℕ → ℕ
 potential_at a Armed m = m
@@ -51,9 +51,9 @@ either_way P false x y p q = q
 pub misfits : (t : Terms) (s : Standing) (slip : ShownSlip) → is_fitting s slip.stake ≡ false → settle_outcome t s slip ≡ handed_back s slip
 misfits t s slip e =
     let k = class_of (length t.nulls) slip.count in
-    ap (λ b. cond b (outcome {X = Result Bool (Refused ShownSlip)} (Ok (rings t s k)) (after_settle t s k)) (handed_back s slip)) e
+    ap (λ b. cond b (outcome {X = Result Bool (Refused ShownSlip)} (Ok (is_ringing t s k)) (standing_after t s k)) (handed_back s slip)) e
 
-in_state : (t : Terms) (tag : ℕ) (st : State) (m r al : ℕ) (row : List ℕ) (strategy : Strategy) (c : Call) → let s = standing tag st m r al row strategy in settles s c ≡ false → Sound t s → Kept t s (call_outcome t s c).after
+in_state : (t : Terms) (tag : ℕ) (st : State) (m r al : ℕ) (row : List ℕ) (strategy : Strategy) (c : Call) → let s = standing tag st m r al row strategy in is_settling s c ≡ false → Sound t s → Kept t s (call_outcome t s c).after
 in_state t tag Armed m r al row strategy Stake apart ok =
     let s = standing tag Armed m r al row strategy in
     either_way (Kept t s) (ltb r most_rounds) (outcome (Ok (next_slip s)) (after_stake s)) (outcome (Err Spent) s) ((ok.0, ok.0 []), le_refl m) (ok, le_refl m)
@@ -72,13 +72,13 @@ in_state t tag Staked m r al row strategy Rearm apart ok = (ok, le_refl _)
 in_state t tag Rung m r al row strategy Rearm apart ok = ((ok.0, tt), omega arith)
 in_state t tag st m r al row strategy Read apart ok = (ok, le_refl _)
 
-pub call_kept : (t : Terms) (s : Standing) (c : Call) → settles s c ≡ false → Sound t s → Kept t s (call_outcome t s c).after
+pub call_kept : (t : Terms) (s : Standing) (c : Call) → is_settling s c ≡ false → Sound t s → Kept t s (call_outcome t s c).after
 call_kept t s c apart ok = in_state t s.tag s.state s.ledger s.rounds s.alarms s.row s.strategy c apart ok
 
 pub all_kept : (t : Terms) (s : Standing) (cs : List Call) → Sound t s → Kept t s (calls_outcome t s (plan_calls t s cs)).after
 all_kept t s [] ok = (ok, le_refl _)
 all_kept t s (c ∷ cs) ok =
     let next = (call_outcome t s c).after in
-    cond_both (settles s c) (plan_calls t s cs) (c ∷ plan_calls t next cs) (λ cs'. Kept t s (calls_outcome t s cs').after)
+    cond_both (is_settling s c) (plan_calls t s cs) (c ∷ plan_calls t next cs) (λ cs'. Kept t s (calls_outcome t s cs').after)
     (λ left_out. all_kept t s cs ok)
     (λ apart. let one = call_kept t s c apart ok in let rest = all_kept t next cs one.0 in (rest.0, le_trans rest.1 one.1))

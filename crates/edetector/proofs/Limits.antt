@@ -4,9 +4,9 @@ use Rattle.std.proofs.Common.{arith}
 use Rattle.std.proofs.lemmas.Bool.Decides.{nat_tests}
 use Rattle.std.proofs.lemmas.Bool.{and_from}
 use Rattle.edetector.specs.declared.value.ValueFault.TheVariants.{Weight, Total}
-use Rattle.edetector.specs.Tables.{fewest_classes, most_classes, most_weight, most_total, from_to, weights_within, table_fault}
+use Rattle.edetector.specs.Tables.{fewest_classes, most_classes, most_weight, most_total, is_within, weights_within, table_fault}
 
-pub inside : (low high n : ℕ) → low ≤ n → n ≤ high → from_to low high n ≡ true
+pub inside : (low high n : ℕ) → low ≤ n → n ≤ high → is_within low high n ≡ true
 inside low high n h l = grind (arith, nat_tests)
 
 pub all_within : (low : ℕ) (ws : List ℕ) → ((j : ℕ) → j < length ws → (low ≤ slice_index ws j) × (slice_index ws j ≤ most_weight)) → weights_within low ws ≡ true
@@ -20,13 +20,13 @@ module _ (low : ℕ) (ws : List ℕ) where
   weights_broken some few b = let a = inside fewest_classes most_classes (length ws) some few in rw (a, b) refl
 
   module _ (some : fewest_classes ≤ length ws) (few : length ws ≤ most_classes) (each : (j : ℕ) → j < length ws → (low ≤ slice_index ws j) × (slice_index ws j ≤ most_weight)) where
-    pub total_broken : from_to 1 most_total (sum ws) ≡ false → table_fault low ws ≡ Some Total
+    pub total_broken : is_within 1 most_total (sum ws) ≡ false → table_fault low ws ≡ Some Total
     total_broken out =
         let a = inside fewest_classes most_classes (length ws) some few in
         let b = all_within low ws each in
         rw (a, b, out) refl
 
-    pub unbroken : from_to 1 most_total (sum ws) ≡ true → table_fault low ws ≡ None
+    pub unbroken : is_within 1 most_total (sum ws) ≡ true → table_fault low ws ≡ None
     unbroken whole =
         let a = inside fewest_classes most_classes (length ws) some few in
         let b = all_within low ws each in

@@ -8,8 +8,8 @@ use Rattle.edetector.specs.declared.slip.ShownSlip.{ShownSlip}
 use Rattle.edetector.specs.declared.fault.Refused.{Refused}
 use Rattle.edetector.specs.Tables.{class_of}
 use Rattle.edetector.specs.States.{is_staked}
-use Rattle.edetector.specs.Monitors.{shown_slip, Terms, Standing, Outcome, outcome, next_slip, settle_outcome, after_settle, rings, Call, Stake, Settle, Withdraw, Rearm, Read, Answer, OfSettle, is_round, is_alarm, call_outcome, calls_outcome}
-use Rattle.edetector.specs.Plans.{Plan, settles, plan_calls, run_calls}
+use Rattle.edetector.specs.Monitors.{shown_slip, Terms, Standing, Outcome, outcome, next_slip, settle_outcome, standing_after, is_ringing, Call, Stake, Settle, Withdraw, Rearm, Read, Answer, OfSettle, is_round, is_alarm, call_outcome, calls_outcome}
+use Rattle.edetector.specs.Plans.{Plan, is_settling, plan_calls, run_calls}
 use Rattle.edetector.proofs.Fairness.{misfits}
 use Rattle.edetector.proofs.Standings.{handed_back}
 
@@ -30,7 +30,7 @@ only_alarms (OfSettle (Ok rang)) apart = absurd (false≢true (sym apart))
 only_alarms _ apart = refl
 
 -- a call that settles nothing answers of no round
-unsettled : (t : Terms) (s : Standing) (c : Call) → settles s c ≡ false → is_round (call_outcome t s c).answer ≡ false
+unsettled : (t : Terms) (s : Standing) (c : Call) → is_settling s c ≡ false → is_round (call_outcome t s c).answer ≡ false
 unsettled t s Stake apart = refl
 unsettled t s (Settle slip) apart = ap (λ (o : Outcome (Result Bool (Refused ShownSlip))). is_round (OfSettle o.answer)) (misfits t s slip apart)
 unsettled t s (Withdraw slip) apart = refl
@@ -42,7 +42,7 @@ plan_none q only t s [] = refl
 plan_none q only t s (c ∷ cs) =
     let next = (call_outcome t s c).after in
     let one = (call_outcome t s c).answer in
-    cond_both (settles s c) (plan_calls t s cs) (c ∷ plan_calls t next cs) (λ cs'. count_by q (calls_outcome t s cs').answer ≡ 0)
+    cond_both (is_settling s c) (plan_calls t s cs) (c ∷ plan_calls t next cs) (λ cs'. count_by q (calls_outcome t s cs').answer ≡ 0)
     (λ left_out. plan_none q only t s cs)
     (λ apart.
     let rest = (calls_outcome t next (plan_calls t next cs)).answer in
@@ -50,7 +50,7 @@ plan_none q only t s (c ∷ cs) =
 
 -- what an accepted settle of class k answers and leaves
 abbrev pub accepted : Terms → Standing → ℕ → Outcome (Result Bool (Refused ShownSlip))
-accepted t m k = let c = class_of (length t.nulls) k in outcome (Ok (rings t m c)) (after_settle t m c)
+accepted t m k = let c = class_of (length t.nulls) k in outcome (Ok (is_ringing t m c)) (standing_after t m c)
 
 -- the slip that is out is accepted
 pub next_is : (t : Terms) (m : Standing) (k : ℕ) → is_staked m.state ≡ true → settle_outcome t m (shown_slip (next_slip m) k) ≡ accepted t m k

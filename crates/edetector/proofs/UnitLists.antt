@@ -6,7 +6,7 @@ use Rattle.std.proofs.lemmas.List.Elements.{All-from_get_or}
 use Rattle.std.proofs.lemmas.List.Sums.{sum_by-le, sum_by-cons}
 use Rattle.edetector.specs.declared.units.Weight.{Weight}
 use Rattle.edetector.specs.declared.value.ValueFault.TheVariants.{Total}
-use Rattle.edetector.specs.Tables.{weights_in, fewest_classes, most_classes, most_weight, most_total, from_to, weights_within, table_fault}
+use Rattle.edetector.specs.Tables.{weights_in, fewest_classes, most_classes, most_weight, most_total, is_within, weights_within, table_fault}
 use Rattle.edetector.specs.Lemmas.Limits.{each_within}
 use Rattle.edetector.specs.Lemmas.Sums.{sum_cons}
 use Rattle.edetector.proofs.Limits.{total_broken, unbroken}
@@ -47,15 +47,15 @@ module _ (low : ℕ) (xs : List Weight) (some : fewest_classes ≤ length xs) (f
   total_is : sum (weights_in xs) ≡ total
   total_is = sym (is ∙ units_sum xs)
 
-  pub units_broken : from_to 1 most_total total ≡ false → table_fault low (weights_in xs) ≡ Some Total
+  pub units_broken : is_within 1 most_total total ≡ false → table_fault low (weights_in xs) ≡ Some Total
   units_broken out =
       let long = length-map xs (λ w. w.0) in
-      total_broken low (weights_in xs) (omega (arith, long)) (omega (arith, long)) (λ k h. units_each low xs all k (omega (arith, h, long))) (ap (from_to 1 most_total) total_is ∙ out)
+      total_broken low (weights_in xs) (omega (arith, long)) (omega (arith, long)) (λ k h. units_each low xs all k (omega (arith, h, long))) (ap (is_within 1 most_total) total_is ∙ out)
 
-  pub units_unbroken : from_to 1 most_total total ≡ true → table_fault low (weights_in xs) ≡ None
+  pub units_unbroken : is_within 1 most_total total ≡ true → table_fault low (weights_in xs) ≡ None
   units_unbroken within =
       let long = length-map xs (λ w. w.0) in
-      unbroken low (weights_in xs) (omega (arith, long)) (omega (arith, long)) (λ k h. units_each low xs all k (omega (arith, h, long))) (ap (from_to 1 most_total) total_is ∙ within)
+      unbroken low (weights_in xs) (omega (arith, long)) (omega (arith, long)) (λ k h. units_each low xs all k (omega (arith, h, long))) (ap (is_within 1 most_total) total_is ∙ within)
 
 -- the weights copied to the front of an array
 module _ (ws held : List Weight) (front : take (length ws) held ≡ ws) where

@@ -11,7 +11,7 @@ use Rattle.edetector.specs.declared.fault.MonitorFault.TheVariants.{NotArmed, Sp
 use Rattle.edetector.specs.declared.fault.Refused.{Refused}
 use Rattle.edetector.specs.declared.fault.Unmade.{Unmade}
 use Rattle.edetector.specs.declared.value.ValueFault.TheVariants.{Threshold}
-use Rattle.edetector.specs.Tables.{from_to, class_of, unit_factor}
+use Rattle.edetector.specs.Tables.{is_within, class_of, unit_factor}
 use Rattle.edetector.specs.Rules.{bet, most_threshold}
 use Rattle.edetector.specs.States.{is_armed, is_staked, most_rounds, state_of, row_in}
 use Rattle.edetector.specs.Bettors.{Meaning, Strategy}
@@ -85,13 +85,13 @@ abbrev pub ledger_after : Terms → Standing → ℕ → ℕ
 ledger_after t s k = (t.base s.ledger * slice_index s.row k) / unit_factor
 
 -- it rings once that has come to as many bets as the threshold says
-abbrev pub rings : Terms → Standing → ℕ → Bool
-rings t s k = nat_le (t.threshold * bet) (ledger_after t s k)
+abbrev pub is_ringing : Terms → Standing → ℕ → Bool
+is_ringing t s k = nat_le (t.threshold * bet) (ledger_after t s k)
 
 -- Settle with class k, which the bettor learns
-abbrev pub after_settle : Terms → Standing → ℕ → Standing
-after_settle t s k =
-    let rang = rings t s k in
+abbrev pub standing_after : Terms → Standing → ℕ → Standing
+standing_after t s k =
+    let rang = is_ringing t s k in
     let state : State = if rang then Rung else Armed in
     let alarms = if rang then s.alarms + 1 else s.alarms in
     let strategy : Strategy = λ later. s.strategy (k ∷ later) in
@@ -100,7 +100,7 @@ after_settle t s k =
 abbrev pub settle_outcome : Terms → Standing → ShownSlip → Outcome (Result Bool (Refused ShownSlip))
 settle_outcome t s slip =
     let k = class_of (length t.nulls) slip.count in
-    if is_fitting s slip.stake then outcome (Ok (rings t s k)) (after_settle t s k) else outcome (Err (misfit slip)) s
+    if is_fitting s slip.stake then outcome (Ok (is_ringing t s k)) (standing_after t s k) else outcome (Err (misfit slip)) s
 
 -- the slip that is out is shown the class k, and settled
 abbrev pub next_outcome : Terms → Standing → ℕ → Outcome (Result Bool (Refused ShownSlip))
@@ -185,7 +185,7 @@ whole_view meaning base m = (terms_of meaning base m, view meaning m, m.bettor, 
 abbrev pub new_monitor : {B R : Type 0} → (B → Meaning) → (R → ℕ → ℕ) → B → R → ℕ → ℕ → Result (Terms × Standing × B × R) (Unmade B R)
 new_monitor meaning base bettor rule threshold tag =
     let t = terms (meaning bettor) (base rule) threshold in
-    if from_to 1 most_threshold threshold then Ok (t, first_standing t tag (meaning bettor), bettor, rule)
+    if is_within 1 most_threshold threshold then Ok (t, first_standing t tag (meaning bettor), bettor, rule)
     else Err (record { fault = Threshold; bettor = bettor; rule = rule })
 
 -- what a call does by its contract: it answers a, and leaves n, as on plain data; what the monitor is made of stays

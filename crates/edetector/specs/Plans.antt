@@ -11,14 +11,14 @@ abbrev pub Plan : Type 0
 Plan = List ℕ → List Call
 
 -- whether a call would settle the slip that is out
-abbrev pub settles : Standing → Call → Bool
-settles s (Settle slip) = is_fitting s slip.stake
-settles s _ = false
+abbrev pub is_settling : Standing → Call → Bool
+is_settling s (Settle slip) = is_fitting s slip.stake
+is_settling s _ = false
 
 -- the calls of a plan, but none that would settle the slip that is out: the counts are not the plan's to choose
 abbrev pub plan_calls : Terms → Standing → List Call → List Call
 plan_calls t s [] = []
-plan_calls t s (c ∷ cs) = if settles s c then plan_calls t s cs else c ∷ plan_calls t (call_outcome t s c).after cs
+plan_calls t s (c ∷ cs) = if is_settling s c then plan_calls t s cs else c ∷ plan_calls t (call_outcome t s c).after cs
 
 -- the calls of a plan's run on a sequence of classes, where those of past are settled already. Whenever the plan's calls
 -- leave a slip out, the sequence's next class settles it; without a slip, or without a class, nothing more is called

@@ -30,20 +30,20 @@ abbrev pub most_total : ℕ
 most_total = 65536
 
 -- n lies from low to high, both counted
-abbrev pub from_to : ℕ → ℕ → ℕ → Bool
-from_to low high n = nat_le low n && nat_le n high
+abbrev pub is_within : ℕ → ℕ → ℕ → Bool
+is_within low high n = nat_le low n && nat_le n high
 
 -- every weight lies from low to the largest
 abbrev pub weights_within : ℕ → List ℕ → Bool
-weights_within low ws = list_all (from_to low most_weight) ws
+weights_within low ws = list_all (is_within low most_weight) ws
 
 -- the first limit that a table breaks whose weights are to be at least low:
 -- the number of classes, then each weight, then the total
 abbrev pub table_fault : ℕ → List ℕ → Option ValueFault
 table_fault low ws =
-    if not (from_to fewest_classes most_classes (length ws)) then Some Classes
+    if not (is_within fewest_classes most_classes (length ws)) then Some Classes
     else if not (weights_within low ws) then Some WeightFault
-    else if not (from_to 1 most_total (sum ws)) then Some Total
+    else if not (is_within 1 most_total (sum ws)) then Some Total
     else None
 
 -- in a null table no weight is 0; in an alternative table a weight may be

@@ -2,7 +2,7 @@
 use Rattle.std.proofs.Common.{◌≡◌, ℕ, suc, ◌+◌, ◌*◌, ◌/◌, ◌<◌, ◌≤◌, true, List, [], ◌∷◌, length, None, ⊎_elim, arith}
 use Rattle.std.proofs.lemmas.List.{length-append}
 use Rattle.std.proofs.lemmas.Bool.{lt-ltb, le-ltb, cases_lt, and_parts}
-use Rattle.edetector.specs.Tables.{fewest_classes, most_classes, most_weight, from_to, weights_within}
+use Rattle.edetector.specs.Tables.{fewest_classes, most_classes, most_weight, is_within, weights_within}
 use Rattle.plantlog.specs.Numbers.{groups, number_bytes}
 use Rattle.plantlog.specs.Format.{Fields, Table, Setup, Alternative, Count, Rearm, End, numbers, numbers_bytes, body, fields_fault}
 use Rattle.plantlog.proofs.Limits.{within}
@@ -27,7 +27,7 @@ weight_few n h = one_less 3 n 2 (one_less 2 (n / 128) 1 (one_group 1 (n / 128 / 
 weights_few : (low : ℕ) (ws : List ℕ) → weights_within low ws ≡ true → length (numbers_bytes ws) ≤ 3 * length ws
 weights_few low [] e = omega arith
 weights_few low (w ∷ ws) e =
-    let p = and_parts (from_to low most_weight w) (weights_within low ws) e in
+    let p = and_parts (is_within low most_weight w) (weights_within low ws) e in
     let here = weight_few w (within low most_weight w p.0).1 in
     let rest = weights_few low ws p.1 in
     let sum = length-append (number_bytes w) (numbers_bytes ws) in

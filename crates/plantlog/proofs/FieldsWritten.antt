@@ -3,7 +3,7 @@ use Rattle.std.proofs.Common.{◌≡◌, ℕ, zero, suc, ◌^◌, ◌<◌, Bool,
 use Rattle.std.specs.List.{sum}
 use Rattle.std.proofs.lemmas.List.{append-nil}
 use Rattle.edetector.specs.declared.value.ValueFault.TheVariants.{Classes, Weight, Total, Threshold}
-use Rattle.edetector.specs.Tables.{fewest_classes, most_classes, most_weight, most_total, from_to, weights_within, table_fault}
+use Rattle.edetector.specs.Tables.{fewest_classes, most_classes, most_weight, most_total, is_within, weights_within, table_fault}
 use Rattle.plantlog.specs.declared.number.NumberFault.{NumberFault}
 use Rattle.plantlog.specs.declared.fault.RecordFault.{RecordFault}
 use Rattle.plantlog.specs.declared.fault.RecordFault.TheVariants.{Value, Number, UnknownChoice}
@@ -88,7 +88,7 @@ by_sum : (t : Bool) (ws : List ℕ) (rest : List ℕ) (vs : List ℕ) → cond t
 by_sum true ws rest vs e = let w = ended_was ws vs rest e in (refl, w.0, w.1)
 by_sum false ws rest vs e = absurd (err_no_ok e)
 
-no_fault : (low : ℕ) (ws : List ℕ) → from_to fewest_classes most_classes (length ws) ≡ true → weights_within low ws ≡ true → from_to 1 most_total (sum ws) ≡ true → of_value (table_fault low ws) ≡ None
+no_fault : (low : ℕ) (ws : List ℕ) → is_within fewest_classes most_classes (length ws) ≡ true → weights_within low ws ≡ true → is_within 1 most_total (sum ws) ≡ true → of_value (table_fault low ws) ≡ None
 no_fault low ws a b t = rw (a, b, t) refl
 
 -- what a table read says of the bytes
@@ -109,7 +109,7 @@ table_written low bs ws h e =
     let t = then_was (table_weights low bs) _ ws e in
     let vs = t.0.0 in
     let rest = t.0.1 in
-    let s = by_sum (from_to 1 most_total (sum vs)) vs rest ws t.2 in
+    let s = by_sum (is_within 1 most_total (sum vs)) vs rest ws t.2 in
     let u = table_were low bs vs rest t.1 in
     let k = then_was (field fewest_classes most_classes (Value Classes) bs) _ _ t.1 in
     let at = table_at low bs k.0.0 k.0.1 vs rest h k.1 k.2 in

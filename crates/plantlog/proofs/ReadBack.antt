@@ -3,7 +3,7 @@ use Rattle.std.proofs.Common.{◌≡◌, ℕ, ◌≤◌, Bool, true, false, cond
 use Rattle.std.proofs.lemmas.List.{length-append, take_at, drop_at}
 use Rattle.std.proofs.lemmas.Bool.{le-leb}
 use Rattle.edetector.specs.declared.value.ValueFault.TheVariants.{Threshold}
-use Rattle.edetector.specs.Tables.{from_to}
+use Rattle.edetector.specs.Tables.{is_within}
 use Rattle.plantlog.specs.declared.fault.RecordFault.TheVariants.{Value, UnknownChoice}
 use Rattle.plantlog.specs.Results.{of_ok, and_then}
 use Rattle.plantlog.specs.Format.{Fields, Table, Setup, Alternative, Count, Rearm, End, body, framed, record_bytes}
@@ -34,7 +34,7 @@ body_back : (f : Fields) → Writable f → body_fields (body f) ≡ Ok f
 unfolding body_fields by_kind
 body_back (Table ws) w = ap (of_ok Table) (table_back 1 ws (unbroken 1 ws w.0))
 body_back (Setup a r b) w =
-    let t = setup_tests (from_to 1 4096 a) (from_to 1 2 r) (from_to 1 3 b) w.0 in setup_back a r b t.0 t.1 t.2
+    let t = setup_tests (is_within 1 4096 a) (is_within 1 2 r) (is_within 1 3 b) w.0 in setup_back a r b t.0 t.1 t.2
 body_back (Alternative ws) w = ap (of_ok Alternative) (table_back 0 ws (unbroken 0 ws w.0))
 body_back (Count day n) w = count_back day n w.1.0 w.1.1.0
 body_back Rearm w = refl

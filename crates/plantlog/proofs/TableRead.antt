@@ -4,7 +4,7 @@ use Rattle.std.specs.List.{sum}
 use Rattle.std.proofs.lemmas.Bool.{and_from}
 use Rattle.edetector.specs.declared.value.ValueFault.{ValueFault}
 use Rattle.edetector.specs.declared.value.ValueFault.TheVariants.{Classes, Weight, Total}
-use Rattle.edetector.specs.Tables.{fewest_classes, most_classes, most_weight, most_total, from_to, weights_within, table_fault, unless_fault}
+use Rattle.edetector.specs.Tables.{fewest_classes, most_classes, most_weight, most_total, is_within, weights_within, table_fault, unless_fault}
 use Rattle.plantlog.specs.declared.fault.RecordFault.{RecordFault}
 use Rattle.plantlog.specs.declared.fault.RecordFault.TheVariants.{Value}
 use Rattle.plantlog.specs.Results.{of_ok, and_then}
@@ -24,12 +24,12 @@ weights_were low (suc k) bs ws rest e =
     let here = (field_was low most_weight (Value Weight) bs w.0.0 w.0.1 w.1).1 in
     (ap length (sym l) ∙ ap suc ih.0, ap (weights_within low) (sym l) ∙ and_from _ _ here ih.1)
 
-pub table_were : (low : ℕ) (bs ws rest : List ℕ) → table_weights low bs ≡ Ok (ws, rest) → (from_to fewest_classes most_classes (length ws) ≡ true) × (weights_within low ws ≡ true)
+pub table_were : (low : ℕ) (bs ws rest : List ℕ) → table_weights low bs ≡ Ok (ws, rest) → (is_within fewest_classes most_classes (length ws) ≡ true) × (weights_within low ws ≡ true)
 unfolding table_weights
 table_were low bs ws rest e =
     let k = then_was (field fewest_classes most_classes (Value Classes) bs) _ _ e in
     let w = weights_were low k.0.0 k.0.1 ws rest k.2 in
-    (ap (from_to fewest_classes most_classes) w.0 ∙ (field_was fewest_classes most_classes (Value Classes) bs k.0.0 k.0.1 k.1).1, w.1)
+    (ap (is_within fewest_classes most_classes) w.0 ∙ (field_was fewest_classes most_classes (Value Classes) bs k.0.0 k.0.1 k.1).1, w.1)
 
 -- what is left to say once a table is judged
 abbrev pub judged : {X : Type 0} → Option ValueFault → Result X RecordFault → Result X RecordFault
@@ -44,14 +44,14 @@ by_total false b t r p q = cc
 
 -- the total, and then nothing more
 abbrev by_sum : List ℕ × List ℕ → Result (List ℕ) RecordFault
-by_sum ws = cond (from_to 1 most_total (sum ws.0)) (ended ws.0 ws.1) (Err (Value Total))
+by_sum ws = cond (is_within 1 most_total (sum ws.0)) (ended ws.0 ws.1) (Err (Value Total))
 
 table_judged : (low : ℕ) (bs ws rest : List ℕ) → Ok (ws, rest) ≡ table_weights low bs → table_fields low bs ≡ judged (table_fault low ws) (ended ws rest)
 unfolding table_fields
 table_judged low bs ws rest e =
     let t = table_were low bs ws rest (sym e) in
     ap (λ r. and_then r by_sum) (sym e)
-    ∙ by_total (from_to fewest_classes most_classes (length ws)) (weights_within low ws) (from_to 1 most_total (sum ws)) (ended ws rest) t.0 t.1
+    ∙ by_total (is_within fewest_classes most_classes (length ws)) (weights_within low ws) (is_within 1 most_total (sum ws)) (ended ws rest) t.0 t.1
 
 module _ (low : ℕ) (bs : List ℕ) where
   pub refused_count : (f : RecordFault) → Err f ≡ field fewest_classes most_classes (Value Classes) bs → Err f ≡ table_fields low bs

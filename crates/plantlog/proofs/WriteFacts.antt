@@ -2,7 +2,7 @@
 use Rattle.std.proofs.Common.{◌≡◌, ℕ, suc, ◌^◌, ◌<◌, true, List, [], ◌∷◌, length, get_or, Some, None, Ok, Option, Result, refl}
 use Rattle.std.specs.List.{sum}
 use Rattle.edetector.specs.declared.value.ValueFault.{ValueFault}
-use Rattle.edetector.specs.Tables.{fewest_classes, most_classes, most_total, from_to, weights_within, table_fault, unless_fault}
+use Rattle.edetector.specs.Tables.{fewest_classes, most_classes, most_total, is_within, weights_within, table_fault, unless_fault}
 use Rattle.edetector.specs.Lemmas.Limits.{by_tests}
 use Rattle.plantlog.specs.declared.fault.RecordFault.{RecordFault}
 use Rattle.plantlog.specs.Format.{of_value}
@@ -11,9 +11,9 @@ use Rattle.plantlog.proofs.ResultFacts.{unless_ok}
 
 -- the limits of an unbroken table, one by one
 pub record Unbroken (low : ℕ) (ws : List ℕ) : Type 0 where
-  pub classes : from_to fewest_classes most_classes (length ws) ≡ true
+  pub classes : is_within fewest_classes most_classes (length ws) ≡ true
   pub each : weights_within low ws ≡ true
-  pub sum : from_to 1 most_total (sum ws) ≡ true
+  pub sum : is_within 1 most_total (sum ws) ≡ true
 
 no_value : (o : Option ValueFault) → of_value o ≡ None → o ≡ None
 no_value None e = refl
@@ -21,7 +21,7 @@ no_value (Some f) e = cc
 
 pub unbroken : (low : ℕ) (ws : List ℕ) → of_value (table_fault low ws) ≡ None → Unbroken low ws
 unbroken low ws e =
-    let p = by_tests (from_to fewest_classes most_classes (length ws)) (weights_within low ws) (from_to 1 most_total (sum ws)) (no_value (table_fault low ws) e) in
+    let p = by_tests (is_within fewest_classes most_classes (length ws)) (weights_within low ws) (is_within 1 most_total (sum ws)) (no_value (table_fault low ws) e) in
     record { classes = p.0; each = p.1; sum = p.2 }
 
 pub not_refused : (o : Option RecordFault) → ◌≡◌ {A = Result (Unit {0}) RecordFault} (Ok tt) (unless_fault o tt) → o ≡ None

@@ -2,7 +2,7 @@
 use Rattle.std.proofs.Common.{◌≡◌, ℕ, zero, suc, ◌≤◌, Bool, true, false, cond, eqb, leb, ◌⊎◌, List, [], ◌∷◌, ◌++◌, length, take, drop, Ok, Err, Result, sym, refl, ap, ◌∙◌, subst, inl, inr, ⊎_elim, add-one}
 use Rattle.std.proofs.lemmas.List.{length-take-le, take-append-drop}
 use Rattle.std.proofs.lemmas.Bool.{eqb-true, leb-true}
-use Rattle.edetector.specs.Tables.{from_to}
+use Rattle.edetector.specs.Tables.{is_within}
 use Rattle.plantlog.specs.declared.fault.RecordFault.{RecordFault}
 use Rattle.plantlog.specs.declared.fault.RecordFault.TheVariants.{LengthByte, Truncated, UnknownKind}
 use Rattle.plantlog.specs.Bytes.{Bytes}
@@ -60,7 +60,7 @@ front_was (l ∷ bs) inner rest e =
     (λ b. absurd (err_no_ok b.1))
     (either (leb l (length bs)) (Ok (take l bs, drop l bs)) (Err Truncated) (inner, rest) a.1))
     (λ a. absurd (err_no_ok a.1))
-    (either (from_to 1 63 l) (cond (leb l (length bs)) (Ok (take l bs, drop l bs)) (Err Truncated)) (Err LengthByte) (inner, rest) e)
+    (either (is_within 1 63 l) (cond (leb l (length bs)) (Ok (take l bs, drop l bs)) (Err Truncated)) (Err LengthByte) (inner, rest) e)
 
 module _ (kind : ℕ) (bs : List ℕ) (f : Fields) (h : Bytes bs) where
   known : (k : ℕ) → eqb kind k ≡ true → Said k f bs → (kind ∷ bs ≡ body f) × Writable f

@@ -1,6 +1,6 @@
 -- The number of each rule, bettor and kind.
 use Rattle.std.specs.Prelude.{◌≡◌, ℕ, if◌then◌else◌, Ok, Err, Result}
-use Rattle.edetector.specs.Tables.{from_to}
+use Rattle.edetector.specs.Tables.{is_within}
 use Rattle.plantlog.specs.declared.fault.RecordFault.{RecordFault}
 use Rattle.plantlog.specs.declared.fault.RecordFault.TheVariants.{UnknownChoice}
 use Rattle.plantlog.specs.declared.record.RuleChoice.{RuleChoice}
@@ -30,7 +30,7 @@ kind_number End = 6
 
 -- a number from 1 to the last, or it names no choice
 abbrev pub chosen : ℕ → ℕ → Result ℕ RecordFault
-chosen last n = if from_to 1 last n then Ok n else Err UnknownChoice
+chosen last n = if is_within 1 last n then Ok n else Err UnknownChoice
 
 -- what a number gives for a rule: the rule of that number, or a refusal at any other
 abbrev pub NamesRule : ℕ → Result RuleChoice RecordFault → Type 0

@@ -2,7 +2,7 @@
 use Rattle.std.specs.Prelude.{ℕ, zero, suc, if◌then◌else◌, List, [], ◌∷◌, length, take, drop, sum, Ok, Err, Result, ◌==◌, nat_le}
 use Rattle.edetector.specs.Rules.{most_threshold}
 use Rattle.edetector.specs.declared.value.ValueFault.TheVariants.{Classes, Weight, Total, Threshold}
-use Rattle.edetector.specs.Tables.{fewest_classes, most_classes, most_weight, most_total, from_to}
+use Rattle.edetector.specs.Tables.{fewest_classes, most_classes, most_weight, most_total, is_within}
 use Rattle.plantlog.specs.declared.fault.RecordFault.{RecordFault}
 use Rattle.plantlog.specs.declared.fault.RecordFault.TheVariants.{Value, Number, NoneLeft, LengthByte, Truncated, UnknownKind, UnknownChoice, LeftOver}
 use Rattle.plantlog.specs.Results.{of_ok, of_err, and_then}
@@ -15,7 +15,7 @@ any_field bs = of_err Number (first_number bs)
 
 -- a field that has to lie from low to high
 unfoldable pub field : ℕ → ℕ → RecordFault → List ℕ → Result (ℕ × List ℕ) RecordFault
-field low high fault bs = and_then (any_field bs) (λ n. if from_to low high n.0 then Ok n else Err fault)
+field low high fault bs = and_then (any_field bs) (λ n. if is_within low high n.0 then Ok n else Err fault)
 
 -- k weights of at least low
 abbrev pub weights : ℕ → ℕ → List ℕ → Result (List ℕ × List ℕ) RecordFault
@@ -38,7 +38,7 @@ table_weights low bs = and_then (field fewest_classes most_classes (Value Classe
 unfoldable pub table_fields : ℕ → List ℕ → Result (List ℕ) RecordFault
 table_fields low bs =
     and_then (table_weights low bs)
-    (λ ws. if from_to 1 most_total (sum ws.0) then ended ws.0 ws.1 else Err (Value Total))
+    (λ ws. if is_within 1 most_total (sum ws.0) then ended ws.0 ws.1 else Err (Value Total))
 
 unfoldable pub setup_fields : List ℕ → Result Fields RecordFault
 setup_fields bs =
@@ -72,7 +72,7 @@ body_fields (kind ∷ rest) = by_kind kind rest
 unfoldable pub front : List ℕ → Result (List ℕ × List ℕ) RecordFault
 front [] = Err NoneLeft
 front (l ∷ bs) =
-    if from_to 1 63 l
+    if is_within 1 63 l
     then (if nat_le l (length bs) then Ok (take l bs, drop l bs) else Err Truncated)
     else Err LengthByte
 

@@ -3,7 +3,7 @@ use Rattle.std.specs.Prelude.{ℕ, if◌then◌else◌, List, [], ◌∷◌, ◌
 use Rattle.edetector.specs.Rules.{most_threshold}
 use Rattle.edetector.specs.declared.value.ValueFault.{ValueFault}
 use Rattle.edetector.specs.declared.value.ValueFault.TheVariants.{Threshold}
-use Rattle.edetector.specs.Tables.{from_to, null_fault, alternative_fault}
+use Rattle.edetector.specs.Tables.{is_within, null_fault, alternative_fault}
 use Rattle.plantlog.specs.declared.fault.RecordFault.{RecordFault}
 use Rattle.plantlog.specs.declared.fault.RecordFault.TheVariants.{Value, UnknownChoice}
 use Rattle.plantlog.specs.declared.record.Kind.{Kind}
@@ -64,8 +64,8 @@ of_value (Some f) = Some (Value f)
 abbrev pub fields_fault : Fields → Option RecordFault
 fields_fault (Table ws) = of_value (null_fault ws)
 fields_fault (Setup a r b) =
-    if from_to 1 most_threshold a
-    then (if from_to 1 2 r then (if from_to 1 3 b then None else Some UnknownChoice) else Some UnknownChoice)
+    if is_within 1 most_threshold a
+    then (if is_within 1 2 r then (if is_within 1 3 b then None else Some UnknownChoice) else Some UnknownChoice)
     else Some (Value Threshold)
 fields_fault (Alternative ws) = of_value (alternative_fault ws)
 fields_fault _ = None

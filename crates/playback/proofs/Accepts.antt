@@ -4,7 +4,7 @@ use Rattle.std.proofs.lemmas.List.{append-nil}
 use Rattle.std.proofs.lemmas.Bool.{eqb-true}
 use Rattle.std.proofs.lemmas.Bool.Decides.{nat_tests}
 use Rattle.edetector.specs.declared.value.ValueFault.TheVariants.{Alternative as UnlikeClasses, Threshold}
-use Rattle.edetector.specs.Tables.{from_to}
+use Rattle.edetector.specs.Tables.{is_within}
 use Rattle.edetector.specs.Bettors.{Meaning}
 use Rattle.edetector.specs.Monitors.{Terms}
 use Rattle.plantlog.specs.Bytes.{Bytes}
@@ -110,7 +110,7 @@ module _ (p : Places) (ws : List ℕ) (x : SetupValue) where
   made_by t m rest at false none = absurd none
 
   made : (m : Meaning) (rest : Stream) (at : Spot) → NoFault (monitored p x m rest at).said → Left None 0 rest
-  made m rest at none = made_by _ m rest at (from_to 1 4096 x.threshold) none
+  made m rest at none = made_by _ m rest at (is_within 1 4096 x.threshold) none
 
   abbrev plays_by : List ℕ → Stream → Spot → Replay
   plays_by alts = monitored p x (meaning_of x.bettor ws alts)

@@ -9,7 +9,7 @@ use Rattle.edetector.specs.declared.fault.MonitorFault.TheVariants.{Spent}
 use Rattle.edetector.specs.Tables.{class_of}
 use Rattle.edetector.specs.declared.monitor.Reading.{Reading}
 use Rattle.edetector.specs.Bettors.{Strategy}
-use Rattle.edetector.specs.Monitors.{Terms, Standing, Answer, OfRead, outcome, rings, after_settle}
+use Rattle.edetector.specs.Monitors.{Terms, Standing, Answer, OfRead, outcome, is_ringing, standing_after}
 use Rattle.edetector.proofs.Standings.{after_stake, standing}
 use Rattle.playback.specs.declared.stop.ReplayFault.{ReplayFault}
 use Rattle.daybook.specs.declared.entry.unwatched.Unwatched.{Unwatched}
@@ -34,7 +34,7 @@ Same s ents s' ents' = (s' ≡ s) × (ents' ≡ ents)
 -- a slip just given fits
 pub settled_fits : (t : Terms) (tag m r al : ℕ) (row : List ℕ) (play : Strategy) (ents : List Alarm) (day count : ℕ) → (k : ℕ) → k ≡ class_of (length t.nulls) count →
     settled_slip t (standing tag Staked m r al row play) ents day (record { stake = record { tag = tag; number = r + 1 }; count = count })
-    ≡ round_of (Ok (rings t (standing tag Staked m r al row play) k)) day (after_settle t (standing tag Staked m r al row play) k) ents
+    ≡ round_of (Ok (is_ringing t (standing tag Staked m r al row play) k)) day (standing_after t (standing tag Staked m r al row play) k) ents
 settled_fits t tag m r al row play ents day count k e =
     let tags : eqb tag tag ≡ true = grind (arith, nat_tests) in
     let numbers : eqb (r + 1) (r + 1) ≡ true = grind (arith, nat_tests) in

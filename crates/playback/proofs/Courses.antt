@@ -10,7 +10,7 @@ use Rattle.edetector.specs.declared.fault.MonitorFault.TheVariants.{NotArmed, Sp
 use Rattle.edetector.specs.Rules.{bet}
 use Rattle.edetector.specs.Tables.{class_of}
 use Rattle.edetector.specs.Bettors.{Strategy}
-use Rattle.edetector.specs.Monitors.{Terms, Standing, outcome, after_settle, rings, rearm_outcome}
+use Rattle.edetector.specs.Monitors.{Terms, Standing, outcome, standing_after, is_ringing, rearm_outcome}
 use Rattle.edetector.proofs.Standings.{after_stake, standing}
 use Rattle.edetector.specs.States.{is_staked}
 use Rattle.plantlog.specs.Format.{Fields, Table, Setup, Alternative, Count, Rearm, End}
@@ -120,16 +120,16 @@ module _ (t : Terms) (p : Places) (n : ℕ) (rest : Stream) (ih : (at : Spot) (w
     armed = watch (standing tag Armed m r al row play) last counts ents us
 
     abbrev after : Standing
-    after = after_settle t (standing tag Staked m r al (play []) play) (class_of (length t.nulls) count)
+    after = standing_after t (standing tag Staked m r al (play []) play) (class_of (length t.nulls) count)
 
     abbrev rang : Bool
-    rang = rings t (standing tag Staked m r al (play []) play) (class_of (length t.nulls) count)
+    rang = is_ringing t (standing tag Staked m r al (play []) play) (class_of (length t.nulls) count)
 
     abbrev entered : Watch
     entered = counted armed day after (alarm_if rang day after ents) us
 
-    settles : ltb r 1000000 ≡ true → all_used p.alarms ents ≡ false → Leads t p (Count day count) at armed entered (Settled day count)
-    settles left room =
+    is_settling : ltb r 1000000 ≡ true → all_used p.alarms ents ≡ false → Leads t p (Count day count) at armed entered (Settled day count)
+    is_settling left room =
         let next_is = armed_next t tag m r al row play day count left in
         record {
           of = refl;
@@ -151,7 +151,7 @@ module _ (t : Terms) (p : Places) (n : ℕ) (rest : Stream) (ih : (at : Spot) (w
     by_rounds room true left =
         let fits = settled_fits t tag m r al (play []) play ents day count _ refl in
         subst (λ (x : Round). On armed (round_done armed day x.answer x.standing x.alarms)) (sym fits)
-        (begins t p (Count day count) n rest at armed entered _ (Settled day count) (settles left room) (ih (behind at n) entered))
+        (begins t p (Count day count) n rest at armed entered _ (Settled day count) (is_settling left room) (ih (behind at n) entered))
     by_rounds room false left = stays armed (Monitor Spent) (later, has_free p.alarms (length ents) room, refl, spent r left)
 
     armed_course : (b : Bool) → all_used p.alarms ents ≡ b → On armed (cond b (faulted armed (Book Full)) (round_done armed day (watched t armed.standing ents day count).answer (watched t armed.standing ents day count).standing (watched t armed.standing ents day count).alarms))

@@ -8,7 +8,7 @@ use Rattle.edetector.specs.Rules.{bet}
 use Rattle.edetector.specs.Tables.{class_of}
 use Rattle.edetector.specs.Bettors.{Strategy}
 use Rattle.edetector.specs.States.{is_armed, is_staked}
-use Rattle.edetector.specs.Monitors.{Terms, Standing, stake_outcome, after_settle, rings, rearm_outcome, Call, Stake, Answer, OfSettle, is_round, is_alarm, calls_outcome, next_outcome}
+use Rattle.edetector.specs.Monitors.{Terms, Standing, stake_outcome, standing_after, is_ringing, rearm_outcome, Call, Stake, Answer, OfSettle, is_round, is_alarm, calls_outcome, next_outcome}
 use Rattle.edetector.specs.Plans.{Plan, plan_calls}
 use Rattle.edetector.proofs.Standings.{standing}
 use Rattle.edetector.proofs.Runs.{CountsRounds, only_alarms, answers_from, accepted, next_is, run_none, run_more}
@@ -27,7 +27,7 @@ one_class classes count = omega arith
 -- a class of a staked monitor is settled
 settles_class : (t : Terms) (tag m r al : ℕ) (row : List ℕ) (strategy : Strategy) (k : ℕ) →
     let u = standing tag Staked m r al row strategy in
-    (next_outcome t u k).after ≡ after_settle t u (class_of (length t.nulls) k)
+    (next_outcome t u k).after ≡ standing_after t u (class_of (length t.nulls) k)
 settles_class t tag m r al row strategy k = ap (λ o. o.after) (next_is t (standing tag Staked m r al row strategy) k refl)
 
 -- a count and its class leave the same
@@ -39,7 +39,7 @@ class_alike t tag m r al row strategy day count left =
     let u = standing tag Staked m r al (strategy []) strategy in
     let k = class_of (length t.nulls) count in
     let stakes : (stake_outcome t s).after ≡ u = rw left refl in
-    ap (λ x. (next_outcome t x k).after) stakes ∙ settles_class t tag m r al (strategy []) strategy k ∙ ap (after_settle t u) (one_class (length t.nulls) count) ∙ sym (armed_next t tag m r al row strategy day count left)
+    ap (λ x. (next_outcome t x k).after) stakes ∙ settles_class t tag m r al (strategy []) strategy k ∙ ap (standing_after t u) (one_class (length t.nulls) count) ∙ sym (armed_next t tag m r al row strategy day count left)
 
 is_standing : (s : Standing) → s.state ≡ Armed → s ≡ standing s.tag Armed s.ledger s.rounds s.alarms s.row s.strategy
 is_standing s armed = ap (λ st. standing s.tag st s.ledger s.rounds s.alarms s.row s.strategy) armed
@@ -82,13 +82,13 @@ module _ (q : Answer → Bool) (only : CountsRounds q) where
   goes_on : (t : Terms) (p : Plan) (tag m r al : ℕ) (row : List ℕ) (strategy : Strategy) (past : List ℕ) (count : ℕ) (ks : List ℕ) (s0 : Standing) →
       let u = standing tag Staked m r al row strategy in
       let k = class_of (length t.nulls) count in
-      left_by t s0 (p past) ≡ u → run_counted t p s0 past (k ∷ ks) ≡ one (rings t u k) + run_counted t p (after_settle t u k) (past ++ (k ∷ [])) ks
+      left_by t s0 (p past) ≡ u → run_counted t p s0 past (k ∷ ks) ≡ one (is_ringing t u k) + run_counted t p (standing_after t u k) (past ++ (k ∷ [])) ks
   goes_on t p tag m r al row strategy past count ks s0 called =
       let u = standing tag Staked m r al row strategy in
       let k = class_of (length t.nulls) count in
       run_more q only t p s0 past k ks
       ∙ ap (λ x. let o = accepted t x k in cond (is_staked x.state) (cond (q (OfSettle o.answer)) 1 0 + run_counted t p o.after (past ++ (k ∷ [])) ks) 0) called
-      ∙ ap (λ c. one (rings t u c) + run_counted t p (after_settle t u c) (past ++ (k ∷ [])) ks) (one_class (length t.nulls) count)
+      ∙ ap (λ c. one (is_ringing t u c) + run_counted t p (standing_after t u c) (past ++ (k ∷ [])) ks) (one_class (length t.nulls) count)
 
   -- from a standing that is armed and has a round left
   from_armed : (t : Terms) (p : Plan) (tag m r al : ℕ) (row : List ℕ) (strategy : Strategy) (past : List ℕ) (day count : ℕ) (ks : List ℕ) (s0 : Standing) → ltb r 1000000 ≡ true →

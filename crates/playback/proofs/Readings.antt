@@ -10,7 +10,7 @@ use Rattle.edetector.specs.declared.fault.MonitorFault.TheVariants.{NotArmed, Sp
 use Rattle.edetector.specs.Rules.{bet}
 use Rattle.edetector.specs.Tables.{class_of}
 use Rattle.edetector.specs.Bettors.{Strategy}
-use Rattle.edetector.specs.Monitors.{Terms, outcome, after_settle, rings, rearm_outcome}
+use Rattle.edetector.specs.Monitors.{Terms, outcome, standing_after, is_ringing, rearm_outcome}
 use Rattle.edetector.proofs.Standings.{after_stake, standing}
 use Rattle.daybook.specs.declared.fault.BookFault.TheVariants.{Full}
 use Rattle.daybook.specs.declared.entry.unwatched.Unwatched.{Unwatched}
@@ -40,8 +40,8 @@ module _ (t : Terms) (p : Places) (number day count : ℕ) where
       above last day ≡ true → all_used p.alarms ents ≡ false → ltb r 1000000 ≡ true → count_read t p w number day count ≡ taken (led t w (Settled day count))
   armed_read tag m r al row play last counts ents us rises room left =
       let w : Watch = record { standing = standing tag Armed m r al row play; last = last; counts = counts; alarms = ents; unwatched = us } in
-      let after = after_settle t (standing tag Staked m r al (play []) play) (class_of (length t.nulls) count) in
-      let rang = rings t (standing tag Staked m r al (play []) play) (class_of (length t.nulls) count) in
+      let after = standing_after t (standing tag Staked m r al (play []) play) (class_of (length t.nulls) count) in
+      let rang = is_ringing t (standing tag Staked m r al (play []) play) (class_of (length t.nulls) count) in
       let next_is = armed_next t tag m r al row play day count left in
       ap (λ b. cond b (by_state Armed t p w number day count) (faulted w DayNotAbove)) rises
       ∙ ap (λ b. cond b (faulted w (Book Full)) (watched_count t w day count)) room

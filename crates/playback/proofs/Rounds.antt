@@ -11,7 +11,7 @@ use Rattle.edetector.specs.declared.fault.Refused.{Refused}
 use Rattle.edetector.specs.declared.slip.ShownSlip.{ShownSlip}
 use Rattle.edetector.specs.Tables.{class_of}
 use Rattle.edetector.specs.Bettors.{Strategy}
-use Rattle.edetector.specs.Monitors.{Terms, Standing, outcome, after_settle, rings, next_outcome}
+use Rattle.edetector.specs.Monitors.{Terms, Standing, outcome, standing_after, is_ringing, next_outcome}
 use Rattle.edetector.proofs.Standings.{after_stake, after_rearm, standing}
 use Rattle.daybook.specs.declared.entry.alarm.Alarm.{Alarm}
 use Rattle.playback.specs.Watch.{alarm_if}
@@ -62,7 +62,7 @@ rearm_keeps t s false = (refl, refl)
 
 -- what an armed monitor with rounds left does with a count
 pub armed_next : (t : Terms) (tag m r al : ℕ) (row : List ℕ) (play : Strategy) (day count : ℕ) → ltb r 1000000 ≡ true →
-    after_event t (standing tag Armed m r al row play) (Settled day count) ≡ after_settle t (standing tag Staked m r al (play []) play) (class_of (length t.nulls) count)
+    after_event t (standing tag Armed m r al row play) (Settled day count) ≡ standing_after t (standing tag Staked m r al (play []) play) (class_of (length t.nulls) count)
 armed_next t tag m r al row play day count left =
     let tags : eqb tag tag ≡ true = grind (arith, nat_tests) in
     let numbers : eqb (r + 1) (r + 1) ≡ true = grind (arith, nat_tests) in
@@ -71,4 +71,4 @@ armed_next t tag m r al row play day count left =
     let k = class_of (length t.nulls) count in
     let slip : ShownSlip = record { stake = record { tag = tag; number = r + 1 }; count = count } in
     ap (λ b. (next_outcome t (cond b (outcome {X = Result OpenSlip MonitorFault} (Ok (record { tag = tag; number = r + 1 })) (after_stake s)) (outcome (Err Spent) s)).after count).after) left
-    ∙ ap (λ b. (cond b (outcome {X = Result Bool (Refused ShownSlip)} (Ok (rings t u k)) (after_settle t u k)) (outcome (Err (record { fault = Misfit; slip = slip })) u)).after) (ap₂ (λ x y. x && y) tags numbers)
+    ∙ ap (λ b. (cond b (outcome {X = Result Bool (Refused ShownSlip)} (Ok (is_ringing t u k)) (standing_after t u k)) (outcome (Err (record { fault = Misfit; slip = slip })) u)).after) (ap₂ (λ x y. x && y) tags numbers)

@@ -8,9 +8,9 @@ use Rattle.edetector.specs.declared.state.State.TheVariants.{Armed, Staked, Rung
 use Rattle.edetector.specs.declared.value.ValueFault.TheVariants.{Alternative as UnlikeClasses, Threshold}
 use Rattle.edetector.specs.Rules.{bet}
 use Rattle.edetector.specs.States.{is_staked}
-use Rattle.edetector.specs.Tables.{class_of, from_to}
+use Rattle.edetector.specs.Tables.{class_of, is_within}
 use Rattle.edetector.specs.Bettors.{Strategy, Meaning}
-use Rattle.edetector.specs.Monitors.{Terms, Standing, rings, rearm_outcome, terms}
+use Rattle.edetector.specs.Monitors.{Terms, Standing, is_ringing, rearm_outcome, terms}
 use Rattle.edetector.proofs.Standings.{standing}
 use Rattle.plantlog.specs.declared.record.Setup.{Setup as SetupValue}
 use Rattle.plantlog.specs.Calls.{span}
@@ -61,7 +61,7 @@ after_settled : (t : Terms) (st : State) (tag m r al : ℕ) (row : List ℕ) (pl
     (s.state ≡ Staked → ⊥) × (s.rounds ≡ r + 1)
 after_settled t Armed tag m r al row play day count is left =
     let next_is = armed_next t tag m r al row play day count left in
-    let rang = rings t (standing tag Staked m r al (play []) play) (class_of (length t.nulls) count) in
+    let rang = is_ringing t (standing tag Staked m r al (play []) play) (class_of (length t.nulls) count) in
     (λ e. calm_by rang (sym (ap (λ s. s.state) next_is) ∙ e), ap (λ s. s.rounds) next_is)
 after_settled t _ tag m r al row play day count is left = cc
 
@@ -100,8 +100,8 @@ module _ (t : Terms) (p : Places) where
       ∙ ap (λ d. (went at (watching t p (stream_of (log_bytes fs)) (behind at k)) d.answer d.after).fault) is ∙ rest
 
   module _ (day n : ℕ) (fs : List Fields) (writable : Writable (Count day n)) (ih : Goes fs) (at : Spot) (w : Watch) (rises : above w.last day ≡ true) (ordered : WatchedRecords (Some day) (w.counts + 1) fs) (fine : Fine p w (counts_in fs + 1)) where
-    settles : w.standing.state ≡ Armed → NoneStops (Count day n ∷ fs) at w
-    settles is =
+    is_settling : w.standing.state ≡ Armed → NoneStops (Count day n ∷ fs) at w
+    is_settling is =
         let s = w.standing in
         let left = rounds_left s.rounds (counts_in fs) fine.rounds in
         let read = settled_read t p at.number day n s.state s.tag s.ledger s.rounds s.alarms s.row s.strategy w.last w.counts w.alarms w.unwatched is rises (not_full p.alarms (length w.alarms) (counts_in fs) fine.alarms) left in
@@ -127,7 +127,7 @@ module _ (t : Terms) (p : Places) where
         }))
 
     counted_on : (st : State) → w.standing.state ≡ st → NoneStops (Count day n ∷ fs) at w
-    counted_on Armed is = settles is
+    counted_on Armed is = is_settling is
     counted_on Staked is = absurd (fine.calm is)
     counted_on Rung is = passes is
 
@@ -163,7 +163,7 @@ record Room (p : Places) (counts : ℕ) : Type 0 where
   pub alarms : counts ≤ p.alarms
   pub unwatched : counts ≤ p.unwatched
 
-module _ (p : Places) (ws : List ℕ) (x : SetupValue) (inside : from_to 1 4096 x.threshold ≡ true) where
+module _ (p : Places) (ws : List ℕ) (x : SetupValue) (inside : is_within 1 4096 x.threshold ≡ true) where
   made_so : (m : Meaning) (fs : List Fields) (at : Spot) → AllWritable fs → WatchedRecords None 0 fs → Room p (counts_in fs) → NoFault (monitored p x m (stream_of (log_bytes fs)) at).said
   made_so m fs at writable ordered room =
       let t = terms m (rule_base x.rule) x.threshold in
@@ -201,7 +201,7 @@ module _ (p : Places) (ws : List ℕ) (x : SetupValue) (inside : from_to 1 4096 
 from_table : (p : Places) (fs : List Fields) (at : Spot) → AllWritable fs → LogRecords fs → Room p (counts_in fs) → NoFault (replayed p (stream_of (log_bytes fs)) at).said
 from_table p (Table ws ∷ Setup a r b ∷ fs) at writable ordered room =
     let gs = Setup a r b ∷ fs in
-    let tests = setup_tests (from_to 1 4096 a) (from_to 1 2 r) (from_to 1 3 b) writable.1.0.0 in
+    let tests = setup_tests (is_within 1 4096 a) (is_within 1 2 r) (is_within 1 3 b) writable.1.0.0 in
     let second = behind at (span (log_bytes (Table ws ∷ gs))) in
     let is = ap (λ s. replayed p s at) (written_next (Table ws) gs writable.0) ∙ ap (λ s. after_table p ws s second) (written_next (Setup a r b) fs writable.1.0) in
     let rest = from_setup p ws (record { threshold = a; rule = rule_named r; bettor = bettor_named b }) tests.0 fs (behind second (span (log_bytes gs))) writable.1.1 ordered room in

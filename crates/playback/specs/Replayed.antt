@@ -1,7 +1,7 @@
 -- A whole replay: the header, then counts and rearms to the end.
 use Rattle.std.specs.Prelude.{ℕ, Bool, true, false, if◌then◌else◌, List, [], length, sum, None, Ok, Err, Result, ◌==◌, nat_le}
 use Rattle.edetector.specs.declared.value.ValueFault.TheVariants.{Alternative as UnlikeClasses, Threshold}
-use Rattle.edetector.specs.Tables.{from_to}
+use Rattle.edetector.specs.Tables.{is_within}
 use Rattle.edetector.specs.Rules.{most_threshold, shiryaev_roberts, page}
 use Rattle.edetector.specs.Bettors.{Meaning, fixed_meaning, adaptive_meaning, mixture_meaning}
 use Rattle.edetector.specs.Monitors.{Terms, terms, first_standing, read_outcome}
@@ -89,7 +89,7 @@ finished ws x t f = record {
 abbrev pub monitored : Places → Setup → Meaning → Stream → Spot → Replay
 monitored p x m rest at =
     let t = terms m (rule_base x.rule) x.threshold in
-    if from_to 1 most_threshold x.threshold then finished m.nulls x t (watching t p rest at (first_watch t m)) else no_monitor at (Value Threshold)
+    if is_within 1 most_threshold x.threshold then finished m.nulls x t (watching t p rest at (first_watch t m)) else no_monitor at (Value Threshold)
 
 -- what the bettor means that a setup names; the adaptive one has no alternative
 abbrev pub meaning_of : BettorChoice → List ℕ → List ℕ → Meaning

@@ -3,7 +3,7 @@ use Rattle.std.proofs.Common.{◌≡◌, true, false, take, length, Ok, refl, ap
 use Rattle.std.specs.List.{sum}
 use Rattle.std.proofs.lemmas.Bool.{false≢true}
 use Rattle.std.proofs.lemmas.List.{length-map}
-use Rattle.edetector.specs.Tables.{weights_in, most_total, from_to, table_fault, unless_fault}
+use Rattle.edetector.specs.Tables.{weights_in, most_total, is_within, table_fault, unless_fault}
 use Rattle.edetector.proofs.Limits.{weights_broken}
 use Rattle.edetector.proofs.UnitLists.{units_without, units_sum, units_light, units_broken, units_unbroken, padded_units}
 use Rattle.edetector.proofs.table.Table.new.Goals as goal
@@ -23,7 +23,7 @@ pub returns-then-not-contains : goal.returns-then-not-contains
 returns-then-not-contains g c =
     let given = c.args.weights.now in
     let ws = weights_in given in
-    let out : from_to 1 most_total c.total_of-total.result ≡ false = search rules in
+    let out : is_within 1 most_total c.total_of-total.result ≡ false = search rules in
     sym (ap (λ f. unless_fault f ws) (units_broken g.row.LEAST given (omega arith) (omega arith) (c.if-not-all_within.ensures.0 refl) _ c.total_of-total.ensures out))
 
 pub invariant_of-result : goal.invariant_of-result
@@ -31,7 +31,7 @@ invariant_of-result g c =
     let given = c.args.weights.now in
     let ws = weights_in given in
     let same : take (length given) (weights_in c.padded_weights.result) ≡ ws = padded_units given c.padded_weights.result c.padded_weights.ensures.front in
-    let within : from_to 1 most_total c.total_of-total.result ≡ true = search rules in
+    let within : is_within 1 most_total c.total_of-total.result ≡ true = search rules in
     record {
       unbroken = ap (table_fault g.row.LEAST) same ∙ units_unbroken g.row.LEAST given (omega arith) (omega arith) (c.if-not-all_within.ensures.0 refl) _ c.total_of-total.ensures within;
       sums = ap sum same ∙ sym (units_sum given) ∙ sym c.total_of-total.ensures;
@@ -44,6 +44,6 @@ pub returns : goal.returns
 returns g c =
     let given = c.args.weights.now in
     let ws = weights_in given in
-    let within : from_to 1 most_total c.total_of-total.result ≡ true = search rules in
+    let within : is_within 1 most_total c.total_of-total.result ≡ true = search rules in
     ap Ok (padded_units given c.padded_weights.result c.padded_weights.ensures.front)
     ∙ sym (ap (λ f. unless_fault f ws) (units_unbroken g.row.LEAST given (omega arith) (omega arith) (c.if-not-all_within.ensures.0 refl) _ c.total_of-total.ensures within))
