@@ -10,7 +10,7 @@ use std::hint::black_box;
 use std::io::{self, Read, Write};
 use std::time::Instant;
 
-/// A number in groups of seven bits, lowest first.
+/// A number as the log writes it: seven bits to a byte, the low ones first.
 fn put_number(body: &mut Vec<u8>, mut number: u32) {
     while number >= 128 {
         body.push((number % 128) as u8 | 0x80);

@@ -1,4 +1,4 @@
--- The last two digits of a number.
+-- A number below 100, written with two digits.
 use Rattle.std.proofs.Common.{◌≡◌, ℕ, ◌-◌, ◌^◌, ◌<◌, ◌/◌, ◌%◌, false, [], ◌++◌, refl, ◌∙◌, ⊎_elim, arith}
 use Rattle.std.specs.Fmt.{decimal, padded_integral, char_count, format_spec}
 use Rattle.std.proofs.lemmas.Bool.{cases_lt}

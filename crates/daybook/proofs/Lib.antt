@@ -1,3 +1,3 @@
 pub mod Digits
-pub mod LastDay
+pub mod LastKey
 pub mod Listing

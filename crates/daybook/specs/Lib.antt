@@ -1,3 +1,4 @@
 pub mod Books
 pub mod Faults
+pub mod Keys
 pub mod Lines

@@ -1,13 +1,13 @@
-// What a book may hold: an entry that has a day.
+// An entry of a book, and its place in the order of a book.
 ghost use Rattle.std.specs.Prelude.{◌≡◌, ℕ};
 
 pub mod alarm;
 pub mod unwatched;
 
-pub trait Dated {
-    // the entry's day
+pub trait Keyed {
+    // the entry's key
     ghost key: { Self → ℕ };
 
-    fn day(&self) -> u32
+    fn key(&self) -> u64
         ensures { result ≡ key self.now };
 }

@@ -4,10 +4,10 @@ ghost use Rattle.daybook.specs.Faults.{book_number};
 
 #[derive(Clone, Copy, Debug, PartialEq, Eq)]
 pub enum BookFault {
-    // every place is used
+    // no place is free
     Full = 37,
-    // the day is not above the last entry's
-    DayNotAbove = 38,
+    // the last entry has the same key or a greater one
+    KeyNotAbove = 38,
 }
 
 impl From<BookFault> for u8 {

@@ -1,4 +1,4 @@
-// Books of dated entries, and the lines of a listing.
+// Books of entries with keys, and the lines of a listing.
 #![tactic(auto)]
 
 pub mod book;

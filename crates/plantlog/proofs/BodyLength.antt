@@ -1,13 +1,17 @@
 -- No record that the writer accepts is longer than a length byte may say.
-use Rattle.std.proofs.Common.{◌≡◌, ℕ, suc, ◌+◌, ◌*◌, ◌/◌, ◌<◌, ◌≤◌, true, List, [], ◌∷◌, length, None, ⊎_elim, arith}
+use Rattle.std.proofs.Common.{◌≡◌, ℕ, suc, ◌+◌, ◌*◌, ◌/◌, ◌<◌, ◌≤◌, true, List, [], ◌∷◌, length, None, ap, ⊎_elim, arith}
 use Rattle.std.proofs.lemmas.List.{length-append}
 use Rattle.std.proofs.lemmas.Bool.{lt-ltb, le-ltb, cases_lt, and_parts}
 use Rattle.edetector.specs.Tables.{fewest_classes, most_classes, most_weight, is_within, weights_within}
 use Rattle.plantlog.specs.Numbers.{groups, number_bytes}
-use Rattle.plantlog.specs.Format.{Fields, Table, Setup, Alternative, Count, Rearm, End, numbers, numbers_bytes, body, fields_fault}
+use Rattle.plantlog.specs.declared.record.RecordKind.{RecordKind}
+use Rattle.plantlog.specs.declared.record.RecordKind.TheVariants.{Table, Setup, Alternative, Count, Rearm, End}
+use Rattle.plantlog.specs.Layouts.{Field, AnyNumber, NumberWithin, TableWeights, Said, AllSaid, layout, field_numbers, all_numbers, field_fault, first_fault}
+use Rattle.plantlog.specs.Format.{Fields, kind_of, said_in, numbers_bytes, body, fields_fault}
 use Rattle.plantlog.proofs.Limits.{within}
 use Rattle.plantlog.proofs.Groups.{bytes_few}
-use Rattle.plantlog.proofs.WriteFacts.{Unbroken, unbroken}
+use Rattle.plantlog.proofs.NumbersBytes.{bytes_append}
+use Rattle.plantlog.proofs.WriteFacts.{Unbroken, unbroken, both_none}
 
 one_less : (m n k : ℕ) → length (groups m (n / 128)) ≤ k → length (groups (suc m) n) ≤ suc k
 one_less m n k h =
@@ -39,17 +43,41 @@ table_few low ws u =
     let few = (within fewest_classes most_classes (length ws) u.classes).1 in
     omega (arith, sum, few, bytes_few (length ws), weights_few low ws u.each)
 
-two_few : (n : ℕ) (ns : List ℕ) (k : ℕ) → length (numbers_bytes ns) ≤ k → length (numbers_bytes (n ∷ ns)) ≤ 5 + k
-two_few n ns k h = omega (arith, length-append (number_bytes n) (numbers_bytes ns), bytes_few n)
+-- the most bytes that a field takes
+abbrev room : Field → ℕ
+room AnyNumber = 5
+room (NumberWithin low high fault) = 5
+room (TableWeights least) = 53
 
-numbers_few : (f : Fields) → fields_fault f ≡ None → length (numbers_bytes (numbers f)) ≤ 53
-numbers_few (Table ws) e = table_few 1 ws (unbroken 1 ws e)
-numbers_few (Setup a r b) e =
-    let h = two_few a (r ∷ b ∷ []) 10 (two_few r (b ∷ []) 5 (two_few b [] 0 (omega arith))) in omega (arith, h)
-numbers_few (Alternative ws) e = table_few 0 ws (unbroken 0 ws e)
-numbers_few (Count day n) e = let h = two_few day (n ∷ []) 5 (two_few n [] 0 (omega arith)) in omega (arith, h)
-numbers_few Rearm e = omega arith
-numbers_few (End n) e = let h = two_few n [] 0 (omega arith) in omega (arith, h)
+abbrev all_room : List Field → ℕ
+all_room [] = 0
+all_room (f ∷ fs) = room f + all_room fs
+
+one_few : (n : ℕ) → length (numbers_bytes (n ∷ [])) ≤ 5
+one_few n = let sum = length-append (number_bytes n) [] in omega (arith, sum, bytes_few n)
+
+field_few : (f : Field) (said : Said f) → field_fault f said ≡ None → length (numbers_bytes (field_numbers f said)) ≤ room f
+field_few AnyNumber n e = one_few n
+field_few (NumberWithin low high fault) n e = one_few n
+field_few (TableWeights least) ws e = table_few least ws (unbroken least ws e)
+
+fields_few : (fs : List Field) (said : AllSaid fs) → first_fault fs said ≡ None → length (numbers_bytes (all_numbers fs said)) ≤ all_room fs
+fields_few [] said e = omega arith
+fields_few (f ∷ fs) said e =
+    let p = both_none (field_fault f said.0) (first_fault fs said.1) e in
+    let here = field_few f said.0 p.0 in
+    let ih = fields_few fs said.1 p.1 in
+    let split = ap length (bytes_append (field_numbers f said.0) (all_numbers fs said.1)) in
+    let sum = length-append (numbers_bytes (field_numbers f said.0)) (numbers_bytes (all_numbers fs said.1)) in
+    omega (arith, here, ih, split, sum)
+
+layout_few : (k : RecordKind) → all_room (layout k) ≤ 62
+layout_few Table = omega arith
+layout_few Setup = omega arith
+layout_few Alternative = omega arith
+layout_few Count = omega arith
+layout_few Rearm = omega arith
+layout_few End = omega arith
 
 pub body_few : (f : Fields) → fields_fault f ≡ None → length (body f) ≤ 63
-body_few f e = omega (arith, numbers_few f e)
+body_few f e = omega (arith, fields_few (layout (kind_of f)) (said_in f) e, layout_few (kind_of f))

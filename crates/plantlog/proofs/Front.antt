@@ -4,7 +4,7 @@ use Rattle.std.specs.List.{slice_range}
 use Rattle.std.proofs.lemmas.List.{take_rest, length-take-le}
 use Rattle.std.proofs.lemmas.Slice.{between_from_start}
 use Rattle.std.proofs.lemmas.Bool.{le-leb, lt-leb}
-use Rattle.plantlog.specs.declared.fault.RecordFault.TheVariants.{NoneLeft, LengthByte, Truncated}
+use Rattle.plantlog.specs.declared.fault.FrontFault.TheVariants.{NoneLeft, LengthByte, Truncated}
 use Rattle.plantlog.specs.FirstRecord.{front}
 use Rattle.plantlog.proofs.Limits.{inside, outside}
 

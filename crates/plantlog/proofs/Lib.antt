@@ -4,7 +4,11 @@ pub mod PutGroups
 pub mod ReadGroups
 pub mod NumberLaws
 pub mod NumberUnique
+pub mod NumberReads
+pub mod Holding
 pub mod FieldFacts
+pub mod TableReads
+pub mod FieldsRead
 pub mod WeightsRead
 pub mod TableRead
 pub mod ByKind
@@ -16,10 +20,13 @@ pub mod PutNumbers
 pub mod TableNumbers
 pub mod PutRecord
 pub mod WriteFacts
-pub mod FieldsBack
+pub mod KindFacts
 pub mod BodyLength
 pub mod ReadBack
-pub mod FieldsWritten
 pub mod WrittenSo
+pub mod Refusing
+pub mod LeftAfter
+pub mod CallsRefused
+pub mod Worked
 pub mod LogLaws
 pub mod WriteBack

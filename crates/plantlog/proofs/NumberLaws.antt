@@ -8,7 +8,7 @@ use Rattle.plantlog.proofs.ReadGroups.{last_ok}
 
 pub examples : NumberExamples
 unfolding number_bytes first_number
-examples = (refl, refl, refl, refl)
+examples = (refl, refl, refl, refl, refl)
 
 trip : (m : ℕ) (several : Bool) (n : ℕ) (rest : List ℕ) → n < limit m → (several ≡ true → 0 < n) → first_number_by m several (groups m n ++ rest) ≡ Ok (n, rest)
 trip zero several n rest h p = let a = le-ltb 15 n (omega arith) in rw a (last_ok several n rest p)

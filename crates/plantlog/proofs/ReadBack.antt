@@ -1,18 +1,21 @@
--- A record that was written is read back.
-use Rattle.std.proofs.Common.{◌≡◌, ℕ, ◌≤◌, Bool, true, false, cond, List, ◌++◌, length, Some, None, Ok, refl, ap, ◌∙◌, arith}
+-- A record that was written is judged as it is read.
+use Rattle.std.proofs.Common.{◌≡◌, ℕ, ◌≤◌, List, ◌++◌, length, Some, None, Ok, Option, Result, refl, ap, ◌∙◌, arith}
 use Rattle.std.proofs.lemmas.List.{length-append, take_at, drop_at}
 use Rattle.std.proofs.lemmas.Bool.{le-leb}
-use Rattle.edetector.specs.declared.value.ValueFault.TheVariants.{Threshold}
-use Rattle.edetector.specs.Tables.{is_within}
-use Rattle.plantlog.specs.declared.fault.RecordFault.TheVariants.{Value, UnknownChoice}
-use Rattle.plantlog.specs.Results.{of_ok, and_then}
-use Rattle.plantlog.specs.Format.{Fields, Table, Setup, Alternative, Count, Rearm, End, body, framed, record_bytes}
-use Rattle.plantlog.specs.FirstRecord.{by_kind, body_fields, front, first_record}
-use Rattle.plantlog.specs.Laws.{Writable, ReadBack}
+use Rattle.edetector.specs.Tables.{unless_fault}
+use Rattle.plantlog.specs.declared.fault.FrontFault.{FrontFault}
+use Rattle.plantlog.specs.declared.fault.RecordFault.{RecordFault}
+use Rattle.plantlog.specs.declared.fault.RecordFault.TheVariants.{Front}
+use Rattle.plantlog.specs.Results.{of_ok, of_err, and_then}
+use Rattle.plantlog.specs.Layouts.{layout, AllSaid}
+use Rattle.plantlog.specs.declared.record.RecordKind.{RecordKind}
+use Rattle.plantlog.specs.Format.{Fields, Sayable, kind_of, said_in, says, numbers, numbers_bytes, body, framed, record_bytes, fields_fault}
+use Rattle.plantlog.specs.FirstRecord.{by_kind, kind_fields, body_fields, front, first_record}
+use Rattle.plantlog.specs.Laws.{ReadBack}
 use Rattle.plantlog.proofs.Limits.{inside}
-use Rattle.plantlog.proofs.WriteFacts.{unbroken}
+use Rattle.plantlog.proofs.KindFacts.{said_back, kind_back}
 use Rattle.plantlog.proofs.BodyLength.{body_few}
-use Rattle.plantlog.proofs.FieldsBack.{table_back, setup_back, count_back, end_back}
+use Rattle.plantlog.proofs.FieldsRead.{fields_judged}
 
 pub front_back : (bs rest : List ℕ) → 1 ≤ length bs → length bs ≤ 63 → front (framed bs ++ rest) ≡ Ok (bs, rest)
 unfolding front
@@ -23,26 +26,28 @@ front_back bs rest some few =
     let d = drop_at bs rest (length bs) refl in
     rw (a, b) (λ j. Ok (t j, d j))
 
--- a setup's tests, one by one
-pub setup_tests : (x y z : Bool) → cond x (cond y (cond z None (Some UnknownChoice)) (Some UnknownChoice)) (Some (Value Threshold)) ≡ None → (x ≡ true) × (y ≡ true) × (z ≡ true)
-setup_tests true true true e = (refl, refl, refl)
-setup_tests true true false e = (cc, cc, cc)
-setup_tests true false z e = (cc, cc, cc)
-setup_tests false y z e = (cc, cc, cc)
+-- what is read of a body in front
+abbrev pub of_front : Result (List ℕ × List ℕ) FrontFault → Result (Fields × List ℕ) RecordFault
+of_front r = and_then (of_err Front r) (λ p. of_ok (λ f. (f, p.1)) (body_fields p.0))
 
-body_back : (f : Fields) → Writable f → body_fields (body f) ≡ Ok f
-unfolding body_fields by_kind
-body_back (Table ws) w = ap (of_ok Table) (table_back 1 ws (unbroken 1 ws w.0))
-body_back (Setup a r b) w =
-    let t = setup_tests (is_within 1 4096 a) (is_within 1 2 r) (is_within 1 3 b) w.0 in setup_back a r b t.0 t.1 t.2
-body_back (Alternative ws) w = ap (of_ok Alternative) (table_back 0 ws (unbroken 0 ws w.0))
-body_back (Count day n) w = count_back day n w.1.0 w.1.1.0
-body_back Rearm w = refl
-body_back (End n) w = end_back n w.1.0
+body_judged : (f : Fields) → Sayable (numbers f) → body_fields (body f) ≡ unless_fault (fields_fault f) f
+unfolding body_fields kind_fields
+body_judged f small =
+    ap (λ k. by_kind k (numbers_bytes (numbers f))) (kind_back (kind_of f))
+    ∙ ap (of_ok (says (kind_of f))) (fields_judged (layout (kind_of f)) (said_in f) small)
+    ∙ seen (kind_of f) (fields_fault f) (said_in f)
+    ∙ ap (unless_fault (fields_fault f)) (said_back f)
+  where
+    seen : (k : RecordKind) (o : Option RecordFault) (said : AllSaid (layout k)) → of_ok (says k) (unless_fault o said) ≡ unless_fault o (says k said)
+    seen k None said = refl
+    seen k (Some e) said = refl
+
+pub judged : (f : Fields) (rest : List ℕ) → Sayable (numbers f) → length (body f) ≤ 63 → first_record (record_bytes f ++ rest) ≡ of_ok {U = Fields × List ℕ} (λ f. (f, rest)) (unless_fault (fields_fault f) f)
+unfolding first_record record_bytes
+judged f rest small few =
+    ap of_front (front_back (body f) rest (omega arith) few)
+    ∙ ap (of_ok (λ f. (f, rest))) (body_judged f small)
 
 pub read_back : ReadBack
-unfolding first_record record_bytes
 read_back f rest w =
-    let few = body_few f w.0 in
-    ap (λ r. and_then r (λ p. of_ok (λ f. (f, p.1)) (body_fields p.0))) (front_back (body f) rest (omega arith) few)
-    ∙ ap (of_ok (λ f. (f, rest))) (body_back f w)
+    judged f rest w.1 (body_few f w.0) ∙ ap (λ o. of_ok {U = Fields × List ℕ} (λ f. (f, rest)) (unless_fault o f)) w.0

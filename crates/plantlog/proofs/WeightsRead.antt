@@ -1,13 +1,16 @@
 -- Weights read one by one.
-use Rattle.std.proofs.Common.{◌≡◌, ℕ, suc, ◌+◌, ◌-◌, ◌<◌, List, [], ◌∷◌, ◌++◌, length, take, set, Ok, Err, Result, sym, refl, ap, ◌∙◌, append_assoc, arith, length-set}
+use Rattle.std.proofs.Common.{◌≡◌, ℕ, zero, suc, true, ◌+◌, ◌-◌, ◌<◌, List, [], ◌∷◌, ◌++◌, length, take, set, Ok, Err, Result, sym, refl, ap, ◌∙◌, append_assoc, arith, length-set}
 use Rattle.std.proofs.lemmas.List.{length-map, map-set, take_more_set}
 use Rattle.edetector.specs.declared.units.Weight.{Weight}
 use Rattle.edetector.specs.declared.value.ValueFault.TheVariants.{Weight as WeightFault}
-use Rattle.edetector.specs.Tables.{most_weight, weights_in}
+use Rattle.std.proofs.lemmas.Bool.{and_from}
+use Rattle.edetector.specs.Tables.{most_weight, weights_in, weights_within}
+use Rattle.plantlog.proofs.ResultFacts.{ok_is, then_was, of_ok_was}
+use Rattle.plantlog.proofs.FieldFacts.{within_was}
 use Rattle.plantlog.specs.declared.fault.RecordFault.{RecordFault}
 use Rattle.plantlog.specs.declared.fault.RecordFault.TheVariants.{Value}
 use Rattle.plantlog.specs.Results.{of_ok, and_then}
-use Rattle.plantlog.specs.FirstRecord.{field, weights}
+use Rattle.plantlog.specs.FirstRecord.{number_within, weights}
 
 -- the weights read behind those that were read before
 abbrev pub after : List ℕ → Result (List ℕ × List ℕ) RecordFault → Result (List ℕ × List ℕ) RecordFault
@@ -27,7 +30,7 @@ module _ (low classes : ℕ) (bytes : List ℕ) where
     step : weights low (classes - k) rest ≡ weights low (suc (classes - (k + 1))) rest
     step = let e : classes - k ≡ suc (classes - (k + 1)) = omega arith in ap (λ j. weights low j rest) e
 
-    pub sofar_more : (w : ℕ) (behind : List ℕ) → Ok (w, behind) ≡ field low most_weight (Value WeightFault) rest → Sofar low classes bytes (k + 1) (set list k (record { 0 = w })) behind
+    pub sofar_more : (w : ℕ) (behind : List ℕ) → Ok (w, behind) ≡ number_within low most_weight (Value WeightFault) rest → Sofar low classes bytes (k + 1) (set list k (record { 0 = w })) behind
     sofar_more w behind read =
         let j = classes - (k + 1) in
         let h : k < length (weights_in list) = omega (arith, length-map list (λ w. w.0), s.room) in
@@ -38,8 +41,20 @@ module _ (low classes : ℕ) (bytes : List ℕ) where
           left = ap (λ l. after l (weights low j behind)) grown ∙ after_one (take k (weights_in list)) w (weights low j behind) ∙ ap (after (take k (weights_in list))) (sym (step ∙ here)) ∙ s.left;
         }
 
-    pub refused : (e : RecordFault) → Err e ≡ field low most_weight (Value WeightFault) rest → Err e ≡ weights low classes bytes
+    pub refused : (e : RecordFault) → Err e ≡ number_within low most_weight (Value WeightFault) rest → Err e ≡ weights low classes bytes
     refused e read =
         let j = classes - (k + 1) in
         let here : weights low (suc j) rest ≡ Err e = ap (λ f. and_then f (λ w. of_ok (λ ws. (w.0 ∷ ws.0, ws.1)) (weights low j w.1))) (sym read) in
         sym (ap (after (take k (weights_in list))) (step ∙ here)) ∙ s.left
+
+-- as many weights as were asked for, each within its limits
+pub weights_were : (low k : ℕ) (bs : List ℕ) (ws rest : List ℕ) → weights low k bs ≡ Ok (ws, rest) → (length ws ≡ k) × (weights_within low ws ≡ true)
+weights_were low zero bs ws rest e =
+    let l : [] ≡ ws = ap (λ p. p.0) (ok_is e) in (ap length (sym l), ap (weights_within low) (sym l))
+weights_were low (suc k) bs ws rest e =
+    let w = then_was (number_within low most_weight (Value WeightFault) bs) _ _ e in
+    let v = of_ok_was _ (weights low k w.0.1) _ w.2 in
+    let l : w.0.0 ∷ v.0.0 ≡ ws = ap (λ p. p.0) v.2 in
+    let ih = weights_were low k w.0.1 v.0.0 v.0.1 v.1 in
+    let here = (within_was low most_weight (Value WeightFault) bs w.0.0 w.0.1 w.1).1 in
+    (ap length (sym l) ∙ ap suc ih.0, ap (weights_within low) (sym l) ∙ and_from _ _ here ih.1)

@@ -1,81 +1,80 @@
 -- The record at the front of some bytes, or the first condition that refuses it.
-use Rattle.std.specs.Prelude.{ℕ, zero, suc, if◌then◌else◌, List, [], ◌∷◌, length, take, drop, sum, Ok, Err, Result, ◌==◌, nat_le}
-use Rattle.edetector.specs.Rules.{most_threshold}
-use Rattle.edetector.specs.declared.value.ValueFault.TheVariants.{Classes, Weight, Total, Threshold}
-use Rattle.edetector.specs.Tables.{fewest_classes, most_classes, most_weight, most_total, is_within}
+use Rattle.std.specs.Prelude.{ℕ, zero, suc, if◌then◌else◌, List, [], ◌∷◌, length, take, drop, sum, Some, None, Ok, Err, Option, Result, ◌==◌, nat_le}
+use Rattle.edetector.specs.declared.value.ValueFault.TheVariants.{Classes, Weight, Total}
+use Rattle.edetector.specs.Tables.{fewest_classes, most_classes, most_weight, most_total, is_within, unless_fault}
+use Rattle.plantlog.specs.declared.fault.FrontFault.{FrontFault}
+use Rattle.plantlog.specs.declared.fault.FrontFault.TheVariants.{NoneLeft, LengthByte, Truncated}
 use Rattle.plantlog.specs.declared.fault.RecordFault.{RecordFault}
-use Rattle.plantlog.specs.declared.fault.RecordFault.TheVariants.{Value, Number, NoneLeft, LengthByte, Truncated, UnknownKind, UnknownChoice, LeftOver}
+use Rattle.plantlog.specs.declared.fault.RecordFault.TheVariants.{Front, Value, Number, UnknownKind, LeftOver}
+use Rattle.plantlog.specs.declared.record.RecordKind.{RecordKind}
 use Rattle.plantlog.specs.Results.{of_ok, of_err, and_then}
 use Rattle.plantlog.specs.Numbers.{first_number}
-use Rattle.plantlog.specs.Format.{Fields, Table, Setup, Alternative, Count, Rearm, End}
+use Rattle.plantlog.specs.Layouts.{Field, AnyNumber, NumberWithin, TableWeights, Said, AllSaid, kinds, kind_byte, layout, limit_fault}
+use Rattle.plantlog.specs.Format.{Fields, says}
 
--- a field: the next number, with the bytes behind it
-unfoldable pub any_field : List ℕ → Result (ℕ × List ℕ) RecordFault
-any_field bs = of_err Number (first_number bs)
+-- the bytes that a body has at most
+abbrev pub longest_body : ℕ
+longest_body = 63
 
--- a field that has to lie from low to high
-unfoldable pub field : ℕ → ℕ → RecordFault → List ℕ → Result (ℕ × List ℕ) RecordFault
-field low high fault bs = and_then (any_field bs) (λ n. if is_within low high n.0 then Ok n else Err fault)
+-- the next number, with the bytes behind it
+unfoldable pub any_number : List ℕ → Result (ℕ × List ℕ) RecordFault
+any_number bs = of_err Number (first_number bs)
 
--- k weights of at least low
+-- a number that has to lie from low to high
+unfoldable pub number_within : (low high : ℕ) → RecordFault → List ℕ → Result (ℕ × List ℕ) RecordFault
+number_within low high fault bs = and_then (any_number bs) (λ n. unless_fault (limit_fault low high fault n.0) n)
+
+-- k weights of at least so much
 abbrev pub weights : ℕ → ℕ → List ℕ → Result (List ℕ × List ℕ) RecordFault
-weights low zero bs = Ok ([], bs)
-weights low (suc k) bs = and_then (field low most_weight (Value Weight) bs) (λ w. of_ok (λ ws. (w.0 ∷ ws.0, ws.1)) (weights low k w.1))
+weights least zero bs = Ok ([], bs)
+weights least (suc k) bs =
+    and_then (number_within least most_weight (Value Weight) bs) (λ w. of_ok (λ ws. (w.0 ∷ ws.0, ws.1)) (weights least k w.1))
+
+-- the number of classes, and as many weights
+unfoldable pub all_weights : ℕ → List ℕ → Result (List ℕ × List ℕ) RecordFault
+all_weights least bs = and_then (number_within fewest_classes most_classes (Value Classes) bs) (λ k. weights least k.0 k.1)
+
+-- a field, with the bytes behind it; of weights the total is judged last
+abbrev pub read_field : (f : Field) → List ℕ → Result (Said f × List ℕ) RecordFault
+read_field AnyNumber bs = any_number bs
+read_field (NumberWithin low high fault) bs = number_within low high fault bs
+read_field (TableWeights least) bs = and_then (all_weights least bs) (λ ws. unless_fault (limit_fault 1 most_total (Value Total) (sum ws.0)) ws)
 
 -- nothing may follow the last field
 abbrev pub no_more : List ℕ → Result (Unit {0}) RecordFault
 no_more [] = Ok tt
 no_more (b ∷ bs) = Err LeftOver
 
-abbrev pub ended : {X : Type 0} → X → List ℕ → Result X RecordFault
-ended x bs = of_ok (λ _. x) (no_more bs)
+-- fields one after the other, and then nothing more
+abbrev pub read_fields : (fs : List Field) → List ℕ → Result (AllSaid fs) RecordFault
+read_fields [] bs = no_more bs
+read_fields (f ∷ fs) bs = and_then (read_field f bs) (λ p. of_ok (λ said. (p.0, said)) (read_fields fs p.1))
 
--- the number of classes, and as many weights
-unfoldable pub table_weights : ℕ → List ℕ → Result (List ℕ × List ℕ) RecordFault
-table_weights low bs = and_then (field fewest_classes most_classes (Value Classes) bs) (λ k. weights low k.0 k.1)
+unfoldable pub kind_fields : RecordKind → List ℕ → Result Fields RecordFault
+kind_fields k bs = of_ok (says k) (read_fields (layout k) bs)
 
--- a table: its weights, then their total, then nothing more
-unfoldable pub table_fields : ℕ → List ℕ → Result (List ℕ) RecordFault
-table_fields low bs =
-    and_then (table_weights low bs)
-    (λ ws. if is_within 1 most_total (sum ws.0) then ended ws.0 ws.1 else Err (Value Total))
+-- the kind among these whose byte it is
+abbrev pub kind_among : List RecordKind → ℕ → Option RecordKind
+kind_among [] byte = None
+kind_among (k ∷ ks) byte = if byte == kind_byte k then Some k else kind_among ks byte
 
-unfoldable pub setup_fields : List ℕ → Result Fields RecordFault
-setup_fields bs =
-    and_then (field 1 most_threshold (Value Threshold) bs)
-    (λ a. and_then (field 1 2 UnknownChoice a.1)
-    (λ r. and_then (field 1 3 UnknownChoice r.1)
-    (λ b. ended (Setup a.0 r.0 b.0) b.1)))
+abbrev pub by_kind : Option RecordKind → List ℕ → Result Fields RecordFault
+by_kind None bs = Err UnknownKind
+by_kind (Some k) bs = kind_fields k bs
 
-unfoldable pub count_fields : List ℕ → Result Fields RecordFault
-count_fields bs = and_then (any_field bs) (λ day. and_then (any_field day.1) (λ n. ended (Count day.0 n.0) n.1))
-
-unfoldable pub end_fields : List ℕ → Result Fields RecordFault
-end_fields bs = and_then (any_field bs) (λ n. ended (End n.0) n.1)
-
--- the fields of a body, by its kind byte
-unfoldable pub by_kind : ℕ → List ℕ → Result Fields RecordFault
-by_kind kind rest =
-    if kind == 1 then of_ok Table (table_fields 1 rest)
-    else if kind == 2 then setup_fields rest
-    else if kind == 3 then of_ok Alternative (table_fields 0 rest)
-    else if kind == 4 then count_fields rest
-    else if kind == 5 then ended Rearm rest
-    else if kind == 6 then end_fields rest
-    else Err UnknownKind
-
+-- a body; no length byte gives an empty one
 unfoldable pub body_fields : List ℕ → Result Fields RecordFault
 body_fields [] = Err UnknownKind
-body_fields (kind ∷ rest) = by_kind kind rest
+body_fields (byte ∷ bs) = by_kind (kind_among kinds byte) bs
 
 -- the body in front, by its length byte, and the bytes behind it
-unfoldable pub front : List ℕ → Result (List ℕ × List ℕ) RecordFault
+unfoldable pub front : List ℕ → Result (List ℕ × List ℕ) FrontFault
 front [] = Err NoneLeft
 front (l ∷ bs) =
-    if is_within 1 63 l
+    if is_within 1 longest_body l
     then (if nat_le l (length bs) then Ok (take l bs, drop l bs) else Err Truncated)
     else Err LengthByte
 
 -- the record in front and the bytes behind it
 unfoldable pub first_record : List ℕ → Result (Fields × List ℕ) RecordFault
-first_record bs = and_then (front bs) (λ p. of_ok (λ f. (f, p.1)) (body_fields p.0))
+first_record bs = and_then (of_err Front (front bs)) (λ p. of_ok (λ f. (f, p.1)) (body_fields p.0))

@@ -1,53 +1,76 @@
--- The records of the log and the bytes that say them.
-use Rattle.std.specs.Prelude.{ℕ, if◌then◌else◌, List, [], ◌∷◌, ◌++◌, length, Some, None, Option}
-use Rattle.edetector.specs.Rules.{most_threshold}
-use Rattle.edetector.specs.declared.value.ValueFault.{ValueFault}
-use Rattle.edetector.specs.declared.value.ValueFault.TheVariants.{Threshold}
-use Rattle.edetector.specs.Tables.{is_within, null_fault, alternative_fault}
+-- What a record says, and the bytes that say it.
+use Rattle.std.specs.Prelude.{◌≡◌, ℕ, ◌^◌, ◌<◌, List, [], ◌∷◌, ◌++◌, length, None, Option}
 use Rattle.plantlog.specs.declared.fault.RecordFault.{RecordFault}
-use Rattle.plantlog.specs.declared.fault.RecordFault.TheVariants.{Value, UnknownChoice}
-use Rattle.plantlog.specs.declared.record.Kind.{Kind}
-use Rattle.plantlog.specs.declared.record.Kind.TheVariants.{Table as ATable, Setup as ASetup, Alternative as AnAlternative, Count as ACount, Rearm as ARearm, End as AnEnd}
-use Rattle.plantlog.specs.Choices.{kind_number}
+use Rattle.plantlog.specs.declared.record.RecordKind.{RecordKind}
+use Rattle.plantlog.specs.declared.record.RecordKind.TheVariants.{Table as ATable, Setup as ASetup, Alternative as AnAlternative, Count as ACount, Rearm as ARearm, End as AnEnd}
+use Rattle.plantlog.specs.declared.record.CountHead.{CountHead}
+use Rattle.plantlog.specs.declared.record.Announced.{Announced}
+use Rattle.plantlog.specs.declared.record.Announced.TheVariants.{Count as CountAhead, Other as OtherAhead}
+use Rattle.plantlog.specs.Layouts.{AllSaid, layout, kind_byte, all_numbers, first_fault}
 use Rattle.plantlog.specs.Numbers.{number_bytes}
 
--- what a record says: weights; threshold, rule and bettor; weights; day and count; nothing; the number of counts
+-- a setup's threshold, and the numbers of its rule and of its bettor
+pub record SetupFields : Type 0 where
+  pub threshold : ℕ
+  pub rule : ℕ
+  pub bettor : ℕ
+
+-- what a record says, by its kind; a count's head is what it tells before it is shown
 pub data Fields : Type 0 where
-  Table : List ℕ → Fields
-  Setup : ℕ → ℕ → ℕ → Fields
-  Alternative : List ℕ → Fields
-  Count : ℕ → ℕ → Fields
+  Table : (weights : List ℕ) → Fields
+  Setup : SetupFields → Fields
+  Alternative : (weights : List ℕ) → Fields
+  Count : CountHead → (count : ℕ) → Fields
   Rearm : Fields
-  End : ℕ → Fields
+  End : (counts : ℕ) → Fields
 
--- a record's kind, and a count's day
-abbrev pub kind_of : Fields → Kind
+abbrev pub kind_of : Fields → RecordKind
 kind_of (Table ws) = ATable
-kind_of (Setup a r b) = ASetup
+kind_of (Setup s) = ASetup
 kind_of (Alternative ws) = AnAlternative
-kind_of (Count day n) = ACount day
+kind_of (Count head count) = ACount
 kind_of Rearm = ARearm
-kind_of (End n) = AnEnd
+kind_of (End counts) = AnEnd
 
-abbrev pub kind_byte : Fields → ℕ
-kind_byte f = kind_number (kind_of f)
+-- what its fields say, in the order of its layout
+abbrev pub said_in : (f : Fields) → AllSaid (layout (kind_of f))
+said_in (Table ws) = (ws, tt)
+said_in (Setup s) = (s.threshold, (s.rule, (s.bettor, tt)))
+said_in (Alternative ws) = (ws, tt)
+said_in (Count head count) = (head.day, (count, tt))
+said_in Rearm = tt
+said_in (End counts) = (counts, tt)
 
--- the numbers after the kind byte; a table's begin with how many classes it has
+-- and back
+abbrev pub says : (k : RecordKind) → AllSaid (layout k) → Fields
+says ATable (ws, none) = Table ws
+says ASetup (a, (r, (b, none))) = Setup (record { threshold = a; rule = r; bettor = b })
+says AnAlternative (ws, none) = Alternative ws
+says ACount (day, (count, none)) = Count (record { day = day }) count
+says ARearm none = Rearm
+says AnEnd (counts, none) = End counts
+
+-- what asking tells of it
+abbrev pub announced : Fields → Announced
+announced (Count head count) = CountAhead head
+announced f = OtherAhead (kind_of f)
+
+-- the numbers behind the kind byte
 abbrev pub numbers : Fields → List ℕ
-numbers (Table ws) = length ws ∷ ws
-numbers (Setup a r b) = a ∷ r ∷ b ∷ []
-numbers (Alternative ws) = length ws ∷ ws
-numbers (Count day n) = day ∷ n ∷ []
-numbers Rearm = []
-numbers (End n) = n ∷ []
+numbers f = all_numbers (layout (kind_of f)) (said_in f)
 
 -- numbers one after the other
 abbrev pub numbers_bytes : List ℕ → List ℕ
 numbers_bytes [] = []
 numbers_bytes (n ∷ ns) = number_bytes n ++ numbers_bytes ns
 
+-- every number has at most 32 bits
+abbrev pub Sayable : List ℕ → Type 0
+Sayable [] = Unit {0}
+Sayable (n ∷ ns) = (n < 2 ^ 32) × Sayable ns
+
 abbrev pub body : Fields → List ℕ
-body f = kind_byte f ∷ numbers_bytes (numbers f)
+body f = kind_byte (kind_of f) ∷ numbers_bytes (numbers f)
 
 -- a body behind its length byte
 abbrev pub framed : List ℕ → List ℕ
@@ -56,16 +79,10 @@ framed bs = length bs ∷ bs
 unfoldable pub record_bytes : Fields → List ℕ
 record_bytes f = framed (body f)
 
-abbrev pub of_value : Option ValueFault → Option RecordFault
-of_value None = None
-of_value (Some f) = Some (Value f)
-
--- the first limit that the fields break, left to right, or none
+-- the first limit that the fields break, or none
 abbrev pub fields_fault : Fields → Option RecordFault
-fields_fault (Table ws) = of_value (null_fault ws)
-fields_fault (Setup a r b) =
-    if is_within 1 most_threshold a
-    then (if is_within 1 2 r then (if is_within 1 3 b then None else Some UnknownChoice) else Some UnknownChoice)
-    else Some (Value Threshold)
-fields_fault (Alternative ws) = of_value (alternative_fault ws)
-fields_fault _ = None
+fields_fault f = first_fault (layout (kind_of f)) (said_in f)
+
+-- the fields that the writer accepts
+abbrev pub Writable : Fields → Type 0
+Writable f = (fields_fault f ≡ None) × Sayable (numbers f)

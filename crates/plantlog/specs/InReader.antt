@@ -1,6 +1,7 @@
 -- What a reader holds, and what its calls show of it.
 use Rattle.std.specs.Prelude.{◌≡◌, ℕ, ◌≤◌, List, length, drop, Some, None, Ok, Option}
 use Rattle.plantlog.specs.declared.judge.JudgedCount.{JudgedCount}
+use Rattle.plantlog.specs.declared.record.CountHead.{CountHead}
 use Rattle.plantlog.specs.declared.reader.Reader.TheInside.{Inside}
 use Rattle.plantlog.specs.Calls.{span}
 use Rattle.plantlog.specs.FirstRecord.{first_record}
@@ -12,8 +13,9 @@ reading_of r = record { log = r.log.now; place = r.place; records = r.records }
 
 -- the record in front is this count, judged whole
 pub record InFront (j : JudgedCount) (left : List ℕ) : Type 0 where
-  pub value : first_record left ≡ Ok (Count j.day j.count, drop j.span left)
-  pub whole : j.span ≡ span left
+  pub head : CountHead
+  pub value : first_record left ≡ Ok (Count head j.count, drop j.span left)
+  pub spans : j.span ≡ span left
   pub within : j.span ≤ length left
   pub some : 1 ≤ j.span
 

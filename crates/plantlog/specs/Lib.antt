@@ -4,6 +4,7 @@ pub mod NumberFaults
 pub mod Numbers
 pub mod NumberLimits
 pub mod RecordFaults
+pub mod Layouts
 pub mod Choices
 pub mod Format
 pub mod FirstRecord
@@ -13,4 +14,5 @@ pub mod Position
 pub mod InReader
 pub mod Slips
 pub mod Written
+pub mod Refusals
 pub mod Laws

@@ -1,7 +1,6 @@
 -- Where a reader stands.
 use Rattle.std.specs.Prelude.{ℕ, ◌+◌, List, drop, Ok, Err, Result}
-use Rattle.plantlog.specs.declared.fault.RecordFault.{RecordFault}
-use Rattle.plantlog.specs.Calls.{span}
+use Rattle.plantlog.specs.Calls.{span, rest_behind}
 
 -- a reader: the log that is read, the byte from 0 at which the next record begins, and how many records were moved past
 pub record Reading : Type 0 where
@@ -28,6 +27,11 @@ abbrev pub behind : List ℕ → Position → Position
 behind left p = record { place = p.place + span left; records = p.records + 1 }
 
 -- after a call: behind the record in front if the call was accepted, else where it stood
-abbrev pub moved : {X : Type 0} → Result X RecordFault → List ℕ → Position → Position
+abbrev pub moved : {X E : Type 0} → Result X E → List ℕ → Position → Position
 moved (Ok x) left p = behind left p
 moved (Err e) left p = p
+
+-- what is left then
+abbrev pub left_after : {X E : Type 0} → Result X E → List ℕ → List ℕ
+left_after (Ok x) left = rest_behind left
+left_after (Err e) left = left

@@ -10,8 +10,3 @@ use Rattle.plantlog.specs.declared.reader.Unshown.{Unshown}
 abbrev pub shown_to : OpenSlip → Result ℕ RecordFault → Result ShownSlip Unshown
 shown_to slip (Ok n) = Ok (shown_slip slip n)
 shown_to slip (Err e) = Err (record { fault = e; slip = slip })
-
--- the refusal alone
-abbrev pub fault_of : Result ShownSlip Unshown → Result ShownSlip RecordFault
-fault_of (Ok slip) = Ok slip
-fault_of (Err u) = Err u.fault

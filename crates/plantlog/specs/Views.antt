@@ -5,19 +5,19 @@ use Rattle.plantlog.specs.declared.record.Record.TheVariants.{Table as TableRead
 use Rattle.plantlog.specs.declared.record.Parsed.{Parsed}
 use Rattle.plantlog.specs.declared.record.Parsed.TheVariants.{Count as CountParsed, Other}
 use Rattle.plantlog.specs.Choices.{rule_number, bettor_number}
-use Rattle.plantlog.specs.Format.{Fields, Table, Setup, Alternative, Count, Rearm, End}
+use Rattle.plantlog.specs.Format.{Fields, SetupFields, Table, Setup, Alternative, Count, Rearm, End}
 
-abbrev pub setup_said : SetupValue → Fields
-setup_said s = Setup s.threshold (rule_number s.rule) (bettor_number s.bettor)
+abbrev pub setup_said : SetupValue → SetupFields
+setup_said s = record { threshold = s.threshold; rule = rule_number s.rule; bettor = bettor_number s.bettor }
 
 -- what a record that was read says
 abbrev pub record_said : Record → Fields
 record_said (TableRead t) = Table t
-record_said (SetupRead s) = setup_said s
+record_said (SetupRead s) = Setup (setup_said s)
 record_said (AlternativeRead t) = Alternative t
 record_said RearmRead = Rearm
-record_said (EndRead n) = End n
+record_said (EndRead counts) = End counts
 
 abbrev pub parsed_said : Parsed → Fields
-parsed_said (CountParsed day count) = Count day count
+parsed_said (CountParsed head count) = Count head count
 parsed_said (Other r) = record_said r

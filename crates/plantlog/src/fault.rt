@@ -1,34 +1,41 @@
-// Why a record is refused. A number's or a value's fault is kept whole inside it.
+// Why a record is refused. The fault of a front, a number or a value stands inside it unchanged.
 ghost use Rattle.std.specs.Prelude.{◌≡◌};
-ghost use Rattle.plantlog.specs.declared.fault.RecordFault.TheVariants.{Number as InNumber, Value as InValue};
-ghost use Rattle.plantlog.specs.RecordFaults.{record_fault_number, record_fault_layer};
+ghost use Rattle.plantlog.specs.declared.fault.RecordFault.TheVariants.{Front as InFront, Number as InNumber, Value as InValue};
+ghost use Rattle.plantlog.specs.RecordFaults.{front_fault_number, record_fault_number, record_fault_layer};
 
 use super::number::NumberFault;
 use edetector::value::ValueFault;
 
+// Why no body stands in front, so that nothing tells where another record would begin.
+#[derive(Clone, Copy, Debug, PartialEq, Eq)]
+pub enum FrontFault {
+    // the log is used up
+    NoneLeft = 45,
+    // no body has the length that the first byte says
+    LengthByte = 21,
+    // the log stops inside the body
+    Truncated = 22,
+}
+
 #[derive(Clone, Copy, Debug, PartialEq, Eq)]
 pub enum RecordFault {
-    // a value of the record breaks its limits
+    // no body stands in front
+    Front(FrontFault),
+    // one of the values is out of bounds
     Value(ValueFault),
-    // a number of the record is malformed
+    // one of the numbers is no number
     Number(NumberFault),
-    // the receive buffer is under 63 bytes
+    // the longest body might not fit into the buffer lent for it
     ReceiveBuffer,
-    // no record is left to read, show or pass over
-    NoneLeft,
-    // the length byte is 0 or above 63
-    LengthByte,
-    // fewer bytes follow than the length byte says
-    Truncated,
-    // the kind is not 01 to 06
+    // no kind of record has this first byte
     UnknownKind,
-    // the rule is not 1 or 2, or the bettor not 1 to 3
+    // no rule, or no bettor, has this number
     UnknownChoice,
-    // bytes remain after the last field
+    // the body goes on behind its fields
     LeftOver,
-    // a record to be shown or passed over is no count, or one to be read is one
+    // the call is for counts and this is none, or the other way round
     WrongCall,
-    // the writer's buffer is too short
+    // the record does not fit into the buffer lent for writing it
     WriteBuffer,
 }
 
@@ -40,17 +47,23 @@ pub enum Layer {
     Record,
 }
 
+impl From<FrontFault> for u8 {
+    ghost from_gives = { λ fault n. n ≡ front_fault_number fault };
+
+    fn from(fault: FrontFault) -> u8 {
+        fault as u8
+    }
+}
+
 impl From<RecordFault> for u8 {
     ghost from_gives = { λ fault n. n ≡ record_fault_number fault };
 
     fn from(fault: RecordFault) -> u8 {
         match fault {
+            RecordFault::Front(cause) => u8::from(cause),
             RecordFault::Value(cause) => u8::from(cause),
             RecordFault::Number(cause) => u8::from(cause),
             RecordFault::ReceiveBuffer => 27,
-            RecordFault::NoneLeft => 45,
-            RecordFault::LengthByte => 21,
-            RecordFault::Truncated => 22,
             RecordFault::UnknownKind => 23,
             RecordFault::UnknownChoice => 25,
             RecordFault::LeftOver => 24,
@@ -69,6 +82,14 @@ impl RecordFault {
             RecordFault::Number(_) => Layer::Number,
             _ => Layer::Record,
         }
+    }
+}
+
+impl From<FrontFault> for RecordFault {
+    ghost from_gives = { λ e r. r ≡ InFront e };
+
+    fn from(e: FrontFault) -> RecordFault {
+        RecordFault::Front(e)
     }
 }
 

@@ -2,7 +2,7 @@
 ghost use Rattle.std.specs.Prelude.{◌≡◌, ◌-◌, ◌≤◌, [], length, IfOk};
 ghost use Rattle.edetector.specs.Tables.{weights_in};
 ghost use Rattle.plantlog.specs.Results.{of_ok};
-ghost use Rattle.plantlog.specs.FirstRecord.{any_field, field, no_more, weights as weights_read};
+ghost use Rattle.plantlog.specs.FirstRecord.{any_number, number_within, no_more, weights as weights_read};
 
 use super::fault::RecordFault;
 use super::number::read_number;
@@ -17,9 +17,9 @@ pub(super) struct FieldsLeft<'a> {
 }
 
 impl<'a> FieldsLeft<'a> {
-    #[tactic(auto, unfolding(crate::specs::FirstRecord::any_field))]
+    #[tactic(auto, unfolding(crate::specs::FirstRecord::any_number))]
     pub(super) fn number(&mut self) -> Result<u32, RecordFault>
-        ensures { of_ok (λ n. (n, self.new.bytes.now)) result ≡ any_field self.old.bytes.now }
+        ensures { of_ok (λ n. (n, self.new.bytes.now)) result ≡ any_number self.old.bytes.now }
     {
         let (n, rest) = read_number(self.bytes)?;
         self.bytes = rest;
@@ -27,14 +27,15 @@ impl<'a> FieldsLeft<'a> {
     }
 
     // A number from `low` to `high`.
-    #[tactic(auto, unfolding(crate::specs::FirstRecord::field))]
+    #[tactic(auto, unfolding(crate::specs::FirstRecord::number_within))]
     pub(super) fn within(
         &mut self,
         low: u32,
         high: u32,
         fault: RecordFault,
     ) -> Result<u32, RecordFault>
-        ensures value { of_ok (λ n. (n, self.new.bytes.now)) result ≡ field low high fault self.old.bytes.now }
+        ensures value { of_ok (λ n. (n, self.new.bytes.now)) result
+            ≡ number_within low high fault self.old.bytes.now }
         ensures limits { IfOk result (λ n. (low ≤ n) × (n ≤ high)) }
     {
         let n = self.number()?;

@@ -4,11 +4,9 @@ ghost use Rattle.plantlog.specs.declared.fault.RecordFault.TheVariants.{ReceiveB
 ghost use Rattle.plantlog.specs.Bytes.{zeros};
 
 use super::fault::RecordFault;
+use super::reader::RECEIVE_BUFFER;
 
-// The most bytes that a body may have, and so what a receive buffer has to hold.
-pub(super) const LONGEST_BODY: usize = 63;
-
-// Wipes the lent receive buffer on every way out.
+// However a call ends, the lent receive buffer is wiped.
 pub(super) struct Guard<'a> {
     pub(super) buf: &'a mut [u8],
 }
@@ -17,10 +15,10 @@ impl Guard<'_> {
     // Any body fits.
     pub(super) fn fits(&self) -> Result<(), RecordFault>
         ensures { MatchResult result
-            (λ _. LONGEST_BODY ≤ length self.now.buf.now)
-            (λ fault. (fault ≡ ReceiveBuffer) × (length self.now.buf.now < LONGEST_BODY)) }
+            (λ _. RECEIVE_BUFFER ≤ length self.now.buf.now)
+            (λ fault. (fault ≡ ReceiveBuffer) × (length self.now.buf.now < RECEIVE_BUFFER)) }
     {
-        if self.buf.len() < LONGEST_BODY {
+        if self.buf.len() < RECEIVE_BUFFER {
             return Err(RecordFault::ReceiveBuffer);
         }
         Ok(())

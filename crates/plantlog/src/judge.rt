@@ -6,33 +6,33 @@ ghost use Rattle.plantlog.specs.FirstRecord.{front};
 ghost use Rattle.plantlog.specs.Views.{parsed_said};
 ghost use Rattle.plantlog.specs.Calls.{next_in, span, roomy};
 
-use super::fault::RecordFault;
-use super::guard::{Guard, LONGEST_BODY};
+use super::fault::{FrontFault, RecordFault};
+use super::guard::Guard;
 use super::parse::parse;
+use super::reader::RECEIVE_BUFFER;
 use super::record::Parsed;
 
 // A count that was judged whole, with the bytes that its record takes.
 #[derive(Clone, Copy, Debug, PartialEq, Eq)]
 pub(super) struct JudgedCount {
-    pub(super) day: u32,
     pub(super) count: u32,
     pub(super) span: usize,
 }
 
 // The body in front, by its length byte.
-fn front_body(left: &[u8]) -> Result<&[u8], RecordFault>
+fn front_body(left: &[u8]) -> Result<&[u8], FrontFault>
     ensures value { of_ok (λ b. (b.now, drop (length b.now + 1) left.now)) result ≡ front left.now }
-    ensures room { IfOk result (λ b. (length b.now + 1 ≡ span left.now) × (length b.now + 1 ≤ length left.now) × (length b.now ≤ LONGEST_BODY)) }
+    ensures room { IfOk result (λ b. (length b.now + 1 ≡ span left.now) × (length b.now + 1 ≤ length left.now) × (length b.now ≤ RECEIVE_BUFFER)) }
 {
     let [length, rest @ ..] = left else {
-        return Err(RecordFault::NoneLeft);
+        return Err(FrontFault::NoneLeft);
     };
     let n = *length as usize;
-    if !(1..=LONGEST_BODY).contains(&n) {
-        return Err(RecordFault::LengthByte);
+    if !(1..=RECEIVE_BUFFER).contains(&n) {
+        return Err(FrontFault::LengthByte);
     }
     let Some(body) = rest.get(..n) else {
-        return Err(RecordFault::Truncated);
+        return Err(FrontFault::Truncated);
     };
     Ok(body)
 }

@@ -1,17 +1,17 @@
-// Numbers of the log: groups of seven bits, lowest first, the top bit of a byte saying that another follows.
-ghost use Rattle.std.specs.Prelude.{◌≡◌, ◌+◌, ◌-◌, ◌*◌, ◌<◌, ◌≤◌, ◌++◌, length, drop};
+// Numbers of the log: a byte has seven bits of one, from the low end on, and is 128 more where another goes on with it.
+ghost use Rattle.std.specs.Prelude.{◌≡◌, ℕ, ◌+◌, ◌-◌, ◌*◌, ◌<◌, ◌≤◌, ◌++◌, length, drop, Result, List};
 ghost use Rattle.plantlog.specs.Results.{of_ok};
 ghost use Rattle.plantlog.specs.NumberFaults.{number_fault_number};
-ghost use Rattle.plantlog.specs.Numbers.{number_bytes, first_number, first_number_by};
+ghost use Rattle.plantlog.specs.Numbers.{number_bytes, first_number, first_number_by, NumberRead, NumberExamples};
 ghost use Rattle.plantlog.specs.NumberLimits.{BelowLimit};
 
 #[derive(Clone, Copy, Debug, PartialEq, Eq)]
 pub enum NumberFault {
-    // the fifth byte is above 0F
+    // a fifth byte has more than four bits
     Wide = 13,
-    // the bytes end before the number does
+    // every byte that is there promises another
     CutShort = 11,
-    // the last of several groups is 00
+    // a byte that was promised is 0 and adds nothing
     Padded = 12,
 }
 
@@ -23,7 +23,7 @@ impl From<NumberFault> for u8 {
     }
 }
 
-// How many groups a number takes: one for each seven significant bits begun, and one for zero.
+// The length of a number's writing, from its leading zeros.
 pub(super) fn group_count(n: u32) -> usize
     ensures value { result ≡ length (number_bytes n) }
     ensures few { result ≤ 5 }
@@ -72,10 +72,14 @@ fn read_groups(bytes: &[u8], more: u8, several: bool) -> Result<(u32, &[u8]), Nu
     Ok((b - 128 + 128 * n, behind))
 }
 
-// The number at the front, and the bytes behind it. Numbers of one or two groups, which are most of a log's, are read here:
-// by `read_groups` alone reading took several times as long.
+// The number at the front, and the bytes behind it. Numbers of one or two groups, which are most of a log's, are read here,
+// since a call for each would cost more than all else that is done with one.
 pub fn read_number(bytes: &[u8]) -> Result<(u32, &[u8]), NumberFault>
     ensures value { of_ok (λ p. (p.0, p.1.now)) result ≡ first_number bytes.now }
+    ensures read { NumberRead bytes.now (of_ok (λ p. (p.0, p.1.now)) result) }
+    ensures only { (r : Result (ℕ × List ℕ) NumberFault) → NumberRead bytes.now r
+        → r ≡ of_ok (λ p. (p.0, p.1.now)) result }
+    ensures figures { NumberExamples }
 {
     let [first, behind @ ..] = bytes else {
         return Err(NumberFault::CutShort);

@@ -7,6 +7,9 @@ use std::marker::Model;
 pub mod calls;
 pub mod place;
 
+// The most bytes that a body may have, and so what a receive buffer has to hold.
+pub const RECEIVE_BUFFER: usize = 63;
+
 // Where a reader stands: at the byte `place`, with so many records moved past. A count that was asked for is kept, so that it
 // is judged once; no call shows that.
 #[derive(Drop)]

@@ -1,6 +1,7 @@
 // What a record says.
 ghost use Rattle.std.specs.Prelude.{◌≡◌};
-ghost use Rattle.plantlog.specs.Choices.{rule_number, bettor_number, kind_number, NamesRule, NamesBettor};
+ghost use Rattle.plantlog.specs.Choices.{rule_number, bettor_number, NamesRule, NamesBettor};
+ghost use Rattle.plantlog.specs.Layouts.{kind_byte};
 
 use super::fault::RecordFault;
 use edetector::table::{AlternativeTable, NullTable};
@@ -27,7 +28,7 @@ pub struct Setup {
     pub bettor: BettorChoice,
 }
 
-// A record as it is read. A count is none of these: it is shown to an open slip or passed over.
+// What reading gives: any record but a count, which only a slip may learn.
 #[derive(Clone, Copy, Debug, PartialEq, Eq)]
 pub enum Record {
     Table(NullTable),
@@ -35,24 +36,37 @@ pub enum Record {
     Alternative(AlternativeTable),
     Rearm,
     // how many count records the log has
-    End(u32),
+    End { counts: u32 },
 }
 
-// What asking tells of a record: its kind, and a count's day.
+// The kinds of records, each with the first byte of its bodies.
 #[derive(Clone, Copy, Debug, PartialEq, Eq)]
-pub enum Kind {
-    Table,
-    Setup,
-    Alternative,
-    Count(u32),
-    Rearm,
-    End,
+pub enum RecordKind {
+    Table = 1,
+    Setup = 2,
+    Alternative = 3,
+    Count = 4,
+    Rearm = 5,
+    End = 6,
+}
+
+// What anybody may know of a count before a slip learns its number.
+#[derive(Clone, Copy, Debug, PartialEq, Eq)]
+pub struct CountHead {
+    pub day: u32,
+}
+
+// What asking tells of the next record. `Other` never holds the kind of a count.
+#[derive(Clone, Copy, Debug, PartialEq, Eq)]
+pub enum Announced {
+    Count(CountHead),
+    Other(RecordKind),
 }
 
 // A record taken apart, before it is known which call it is for.
 #[derive(Clone, Copy, Debug, PartialEq, Eq)]
 pub(super) enum Parsed {
-    Count { day: u32, count: u32 },
+    Count { head: CountHead, count: u32 },
     Other(Record),
 }
 
@@ -102,34 +116,27 @@ impl TryFrom<u32> for BettorChoice {
 }
 
 // The kind byte.
-impl From<Kind> for u8 {
-    ghost from_gives = { λ kind n. n ≡ kind_number kind };
+impl From<RecordKind> for u8 {
+    ghost from_gives = { λ kind n. n ≡ kind_byte kind };
 
-    fn from(kind: Kind) -> u8 {
-        match kind {
-            Kind::Table => 1,
-            Kind::Setup => 2,
-            Kind::Alternative => 3,
-            Kind::Count(_) => 4,
-            Kind::Rearm => 5,
-            Kind::End => 6,
-        }
+    fn from(kind: RecordKind) -> u8 {
+        kind as u8
     }
 }
 
-impl From<Record> for Kind {
+impl From<Record> for RecordKind {
     ghost use Rattle.plantlog.specs.Format.{kind_of};
     ghost use Rattle.plantlog.specs.Views.{record_said};
 
     ghost from_gives = { λ r kind. kind ≡ kind_of (record_said r) };
 
-    fn from(record: Record) -> Kind {
+    fn from(record: Record) -> RecordKind {
         match record {
-            Record::Table(_) => Kind::Table,
-            Record::Setup(_) => Kind::Setup,
-            Record::Alternative(_) => Kind::Alternative,
-            Record::Rearm => Kind::Rearm,
-            Record::End(_) => Kind::End,
+            Record::Table(_) => RecordKind::Table,
+            Record::Setup(_) => RecordKind::Setup,
+            Record::Alternative(_) => RecordKind::Alternative,
+            Record::Rearm => RecordKind::Rearm,
+            Record::End { .. } => RecordKind::End,
         }
     }
 }
@@ -139,7 +146,7 @@ impl Parsed {
     ghost use Rattle.plantlog.specs.Calls.{no_count, only_count};
     ghost use Rattle.plantlog.specs.Views.{record_said, parsed_said};
 
-    // A record to be shown or passed over has to be a count.
+    // For a call that wants a count.
     pub(super) fn count(self) -> Result<u32, RecordFault>
         ensures { result ≡ only_count (parsed_said self) }
     {
@@ -149,7 +156,7 @@ impl Parsed {
         }
     }
 
-    // A record to be read has to be none.
+    // For a call that wants another record.
     pub(super) fn record(self) -> Result<Record, RecordFault>
         ensures { of_ok record_said result ≡ no_count (parsed_said self) }
     {

@@ -1,6 +1,8 @@
 // A table of weights in a body.
-ghost use Rattle.std.specs.Prelude.{◌≡◌, ◌-◌};
-ghost use Rattle.plantlog.specs.FirstRecord.{table_fields};
+ghost use Rattle.std.specs.Prelude.{◌≡◌, ◌-◌, [], ◌∷◌};
+ghost use Rattle.plantlog.specs.Results.{of_ok};
+ghost use Rattle.plantlog.specs.Layouts.{TableWeights};
+ghost use Rattle.plantlog.specs.FirstRecord.{read_fields};
 
 use super::fault::RecordFault;
 use super::field::FieldsLeft;
@@ -8,8 +10,9 @@ use edetector::table::{FEWEST_CLASSES, MOST_CLASSES, Table};
 use edetector::units::Weight;
 use edetector::value::ValueFault;
 
+#[inline(never)]
 pub(super) fn table<const LEAST: u32>(bytes: &[u8]) -> Result<Table<LEAST>, RecordFault>
-    ensures { result ≡ table_fields LEAST bytes.now }
+    ensures { of_ok (λ ws. (ws, tt)) result ≡ read_fields (TableWeights LEAST ∷ []) bytes.now }
 {
     let mut fields = FieldsLeft { bytes };
     let fault = RecordFault::Value(ValueFault::Classes);

@@ -9,7 +9,7 @@ ghost use Rattle.plantlog.specs.Written.{fields_judged, SaysTable, Wrote};
 use self::numbers::table_numbers;
 use self::put::{MOST_NUMBERS, put_record};
 use super::fault::RecordFault;
-use super::record::{BettorChoice, Kind, RuleChoice};
+use super::record::{BettorChoice, RecordKind, RuleChoice};
 use edetector::monitor::calls::MOST_THRESHOLD;
 use edetector::table::Table;
 use edetector::units::Weight;
@@ -20,7 +20,7 @@ mod put;
 
 // A record of the weights of a table, which are at least `LEAST`.
 fn write_weights<const LEAST: u32>(
-    kind: Kind,
+    kind: RecordKind,
     weights: &[Weight],
     out: &mut [u8],
 ) -> Result<usize, RecordFault>
@@ -39,11 +39,11 @@ fn write_weights<const LEAST: u32>(
 pub fn write_table(weights: &[Weight], out: &mut [u8]) -> Result<usize, RecordFault>
     ensures { Wrote (InTable (weights_in weights.now)) out.old result out.new }
 {
-    write_weights::<1>(Kind::Table, weights, out)
+    write_weights::<1>(RecordKind::Table, weights, out)
 }
 
 fn judge_setup(threshold: u32, rule: u32, bettor: u32) -> Result<(), RecordFault>
-    ensures { result ≡ fields_judged (InSetup threshold rule bettor) }
+    ensures { result ≡ fields_judged (InSetup (record { threshold = threshold; rule = rule; bettor = bettor })) }
 {
     if !(1..=MOST_THRESHOLD).contains(&threshold) {
         return Err(RecordFault::Value(ValueFault::Threshold));
@@ -53,40 +53,42 @@ fn judge_setup(threshold: u32, rule: u32, bettor: u32) -> Result<(), RecordFault
     Ok(())
 }
 
-// Rule and bettor are the numbers that the log has for them, here and in `judge_setup`: the two enums would ask more of callers.
+// Rule and bettor are the numbers that the log has for them, here and in `judge_setup`, so that a caller
+// may hand over any two.
 pub fn write_setup(
     threshold: u32,
     rule: u32,
     bettor: u32,
     out: &mut [u8],
 ) -> Result<usize, RecordFault>
-    ensures { Wrote (InSetup threshold rule bettor) out.old result out.new }
+    ensures { Wrote (InSetup (record { threshold = threshold; rule = rule; bettor = bettor }))
+        out.old result out.new }
 {
     judge_setup(threshold, rule, bettor)?;
-    put_record(Kind::Setup, &[threshold, rule, bettor], out)
+    put_record(RecordKind::Setup, &[threshold, rule, bettor], out)
 }
 
 pub fn write_alternative(weights: &[Weight], out: &mut [u8]) -> Result<usize, RecordFault>
     ensures { Wrote (InAlternative (weights_in weights.now)) out.old result out.new }
 {
-    write_weights::<0>(Kind::Alternative, weights, out)
+    write_weights::<0>(RecordKind::Alternative, weights, out)
 }
 
 pub fn write_count(day: u32, count: u32, out: &mut [u8]) -> Result<usize, RecordFault>
-    ensures { Wrote (InCount day count) out.old result out.new }
+    ensures { Wrote (InCount (record { day = day }) count) out.old result out.new }
 {
-    put_record(Kind::Count(day), &[day, count], out)
+    put_record(RecordKind::Count, &[day, count], out)
 }
 
 pub fn write_rearm(out: &mut [u8]) -> Result<usize, RecordFault>
     ensures { Wrote InRearm out.old result out.new }
 {
-    put_record(Kind::Rearm, &[], out)
+    put_record(RecordKind::Rearm, &[], out)
 }
 
 // `counts` is how many count records the log has.
 pub fn write_end(counts: u32, out: &mut [u8]) -> Result<usize, RecordFault>
     ensures { Wrote (InEnd counts) out.old result out.new }
 {
-    put_record(Kind::End, &[counts], out)
+    put_record(RecordKind::End, &[counts], out)
 }

@@ -3,8 +3,8 @@
 
 use edetector::units::Weight;
 use plantlog::fault::RecordFault;
-use plantlog::reader::Reader;
-use plantlog::record::{Kind, Record};
+use plantlog::reader::{RECEIVE_BUFFER, Reader};
+use plantlog::record::{Announced, Record};
 use plantlog::writer::{
     write_alternative, write_count, write_end, write_rearm, write_setup, write_table,
 };
@@ -32,7 +32,7 @@ fn print_record(rt: &HostRuntime, record: Record) -> io::Result<()> {
         ),
         Record::Alternative(_) => println!(rt; "alternative"),
         Record::Rearm => println!(rt; "rearm"),
-        Record::End(counts) => println!(rt; "end counts {counts}"),
+        Record::End { counts } => println!(rt; "end counts {counts}"),
     }
 }
 
@@ -44,11 +44,11 @@ fn print_fault(rt: &HostRuntime, fault: RecordFault) -> io::Result<()> {
 fn print_next(rt: &HostRuntime, reader: &mut Reader, buf: &mut [u8]) -> io::Result<()> {
     match reader.ask(buf) {
         Ok(None) => println!(rt; "none left"),
-        Ok(Some(Kind::Count(day))) => match reader.pass_over(buf) {
-            Ok(()) => println!(rt; "count day {day}"),
+        Ok(Some(Announced::Count(head))) => match reader.pass_over(buf) {
+            Ok(()) => println!(rt; "count day {}", head.day),
             Err(fault) => print_fault(rt, fault),
         },
-        Ok(Some(_)) => match reader.read(buf) {
+        Ok(Some(Announced::Other(_))) => match reader.read(buf) {
             Ok(record) => print_record(rt, record),
             Err(fault) => print_fault(rt, fault),
         },
@@ -67,7 +67,7 @@ fn print_log(rt: &HostRuntime, log: &[u8], buf: &mut [u8]) -> io::Result<()> {
 
 fn main(rt: HostRuntime) -> io::Result<()> {
     let mut log = [0u8; 25];
-    let mut buf = [0u8; 63];
+    let mut buf = [0u8; RECEIVE_BUFFER];
     match write_log(&mut log) {
         Ok(n) => {
             println!(rt; "bytes {n}")?;

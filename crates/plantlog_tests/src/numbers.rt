@@ -5,23 +5,30 @@ mod tests {
     use super::super::calls::numbered;
     use plantlog::number::{NumberFault, read_number};
 
-    fn number_at(bytes: &[u8]) -> Result<u32, NumberFault> {
-        read_number(bytes).map(|(n, _)| n)
+    // The number in front, and how many bytes are behind it.
+    fn number_at(bytes: &[u8]) -> Result<(u32, usize), NumberFault> {
+        read_number(bytes).map(|(n, behind)| (n, behind.len()))
     }
 
     #[test]
     fn edges(rt: HostRuntime) {
-        assert_eq!(rt; number_at(&[0x00]), Ok(0));
-        assert_eq!(rt; number_at(&[0x7f]), Ok(127));
-        assert_eq!(rt; number_at(&[0x80, 0x01]), Ok(128));
-        assert_eq!(rt; number_at(&[0xac, 0x02]), Ok(300));
-        assert_eq!(rt; number_at(&[0xff, 0x7f]), Ok(16383));
-        assert_eq!(rt; number_at(&[0x80, 0x80, 0x01]), Ok(16384));
-        assert_eq!(rt; number_at(&[0xff, 0xff, 0x7f]), Ok(2097151));
-        assert_eq!(rt; number_at(&[0x80, 0x80, 0x80, 0x01]), Ok(2097152));
-        assert_eq!(rt; number_at(&[0xff, 0xff, 0xff, 0x7f]), Ok(268435455));
-        assert_eq!(rt; number_at(&[0x80, 0x80, 0x80, 0x80, 0x01]), Ok(268435456));
-        assert_eq!(rt; number_at(&[0xff, 0xff, 0xff, 0xff, 0x0f]), Ok(4294967295));
+        assert_eq!(rt; number_at(&[0x00]), Ok((0, 0)));
+        assert_eq!(rt; number_at(&[0x7f]), Ok((127, 0)));
+        assert_eq!(rt; number_at(&[0x80, 0x01]), Ok((128, 0)));
+        assert_eq!(rt; number_at(&[0xac, 0x02, 0x05, 0x80]), Ok((300, 2)));
+        assert_eq!(rt; number_at(&[0xff, 0x7f]), Ok((16383, 0)));
+        assert_eq!(rt; number_at(&[0x80, 0x80, 0x01]), Ok((16384, 0)));
+        assert_eq!(rt; number_at(&[0xff, 0xff, 0x7f]), Ok((2097151, 0)));
+        assert_eq!(rt; number_at(&[0x80, 0x80, 0x80, 0x01]), Ok((2097152, 0)));
+        assert_eq!(rt; number_at(&[0xff, 0xff, 0xff, 0x7f]), Ok((268435455, 0)));
+        assert_eq!(rt;
+            number_at(&[0x80, 0x80, 0x80, 0x80, 0x01]),
+            Ok((268435456, 0))
+        );
+        assert_eq!(rt;
+            number_at(&[0xff, 0xff, 0xff, 0xff, 0x0f]),
+            Ok((4294967295, 0))
+        );
     }
 
     #[test]

@@ -4,7 +4,7 @@ use edetector::fault::MonitorFault;
 use edetector::monitor::Monitor;
 use edetector::rule::RestartRule;
 use plantlog::fault::RecordFault;
-use plantlog::reader::{Reader, Unshown};
+use plantlog::reader::{RECEIVE_BUFFER, Reader, Unshown};
 
 // Stakes and has the next record shown: whether it rang, or the refusal, with the slip withdrawn.
 fn shown<B: Bettor, R: RestartRule>(
@@ -12,7 +12,7 @@ fn shown<B: Bettor, R: RestartRule>(
     reader: &mut Reader,
 ) -> Result<Result<bool, RecordFault>, MonitorFault> {
     let slip = monitor.stake()?;
-    match reader.show(slip, &mut [7u8; 63]) {
+    match reader.show(slip, &mut [7u8; RECEIVE_BUFFER]) {
         Ok(shown) => match monitor.settle(shown) {
             Ok(rang) => Ok(Ok(rang)),
             Err(_refused) => unreachable(),

@@ -16,6 +16,7 @@ use Rattle.plantlog.specs.FirstRecord.{first_record}
 use Rattle.plantlog.specs.Laws.{records_in, log_bytes}
 use Rattle.plantlog.proofs.LogLaws.{log_written_so}
 use Rattle.daybook.specs.declared.book.Book.{Book}
+use Rattle.daybook.specs.declared.entry.Keyed.{Ghosts as Keyed}
 use Rattle.daybook.specs.declared.entry.alarm.Alarm.{Alarm}
 use Rattle.daybook.specs.declared.entry.unwatched.Unwatched.{Unwatched}
 use Rattle.playback.specs.declared.report.Run.{Run}
@@ -89,10 +90,10 @@ of_events (e ∷ es) Over at last counts n k of rising named ends = absurd of
 of_events (e ∷ es) (Broken x) at last counts n k of rising named ends = absurd of
 of_events (Settled day count ∷ es) (Next f m rest) at last counts n k of rising named ends =
     let l = of_events es rest (behind at m) (Some day) (counts + 1) n k of.1 rising.1 (omega (arith, named)) ends in
-    record { records = Count day count ∷ l.records; says = (of.0, l.says); ordered = (rising.0, l.ordered) }
+    record { records = Count (record { day = day }) count ∷ l.records; says = (of.0, l.says); ordered = (rising.0, l.ordered) }
 of_events (Passed day number ∷ es) (Next f m rest) at last counts n k of rising named ends =
     let l = of_events es rest (behind at m) (Some day) (counts + 1) n k of.1 rising.1 (omega (arith, named)) ends in
-    record { records = Count day of.0.0 ∷ l.records; says = (of.0.1, l.says); ordered = (rising.0, l.ordered) }
+    record { records = Count (record { day = day }) of.0.0 ∷ l.records; says = (of.0.1, l.says); ordered = (rising.0, l.ordered) }
 of_events (Rearmed ∷ es) (Next f m rest) at last counts n k of rising named ends =
     let l = of_events es rest (behind at m) last counts n k of.1 rising (omega (arith, named)) ends in
     record { records = Rearm ∷ l.records; says = (of.0, l.says); ordered = l.ordered }
@@ -122,9 +123,9 @@ module _ (p : Places) (ws : List ℕ) (x : SetupValue) where
   straight : (fs : List Fields) → has_alternative x.bettor ≡ false → WatchedRecords None 0 fs → AfterSetup (length ws) x.bettor fs
   straight [] has records = absurd records
   straight (Table us ∷ fs) has records = absurd records
-  straight (Setup a r b ∷ fs) has records = absurd records
+  straight (Setup s ∷ fs) has records = absurd records
   straight (Alternative us ∷ fs) has records = absurd records
-  straight (Count day n ∷ fs) has records = (has, records)
+  straight (Count head n ∷ fs) has records = (has, records)
   straight (Rearm ∷ fs) has records = (has, records)
   straight (End n ∷ fs) has records = (has, records)
 
@@ -148,9 +149,9 @@ module _ (p : Places) (ws : List ℕ) (x : SetupValue) where
       (l.records, l.says, straight l.records has l.ordered)
 
 by_setup : (p : Places) (ws : List ℕ) (s : Stream) (at : Spot) → NoFault (after_table p ws s at).said → (fs : List Fields) × Says s fs × LogRecords (Table ws ∷ fs)
-by_setup p ws (Next (Setup a r b) n rest) at none =
-    let l = by_bettor p ws (record { threshold = a; rule = rule_named r; bettor = bettor_named b }) rest (behind at n) (has_alternative (bettor_named b)) refl none in
-    (Setup a r b ∷ l.0, (refl, l.1), l.2)
+by_setup p ws (Next (Setup s) n rest) at none =
+    let l = by_bettor p ws (record { threshold = s.threshold; rule = rule_named s.rule; bettor = bettor_named s.bettor }) rest (behind at n) (has_alternative (bettor_named s.bettor)) refl none in
+    (Setup s ∷ l.0, (refl, l.1), l.2)
 by_setup p ws _ at none = absurd none
 
 by_table : (p : Places) (s : Stream) (at : Spot) → NoFault (replayed p s at).said → (fs : List Fields) × Says s fs × LogRecords fs
@@ -173,7 +174,7 @@ not_too_long log rest true fits e = grind (arith, nat_tests)
 not_too_long log rest false fits e = cc
 
 -- what is reported of a log without a fault
-pub accepted : (r : Result Run Fault) (alarms : Book Alarm) (unwatched : Book Unwatched) (p : Places) (log : List ℕ) (rest : Rest) → Ok rest ≡ taken_whole log → ((i : ℕ) → Fits w8 (get_or log i 0)) →
+pub accepted : (r : Result Run Fault) {K : Keyed Alarm} {L : Keyed Unwatched} (alarms : Book Alarm K) (unwatched : Book Unwatched L) (p : Places) (log : List ℕ) (rest : Rest) → Ok rest ≡ taken_whole log → ((i : ℕ) → Fits w8 (get_or log i 0)) →
     replay_told r alarms unwatched ≡ replayed p (stream_of rest.left) rest.at → NoFault r → Accepted log
 accepted (Ok run) alarms unwatched p log rest is fits told none =
     let told_whole = told ∙ ap (λ (x : Rest). replayed p (stream_of x.left) x.at) (whole_by log rest (leb (length log) longest) is) in

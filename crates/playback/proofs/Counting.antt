@@ -13,7 +13,8 @@ use Rattle.edetector.specs.Monitors.{Terms, Standing, Answer, OfRead, outcome, i
 use Rattle.edetector.proofs.Standings.{after_stake, standing}
 use Rattle.playback.specs.declared.stop.ReplayFault.{ReplayFault}
 use Rattle.daybook.specs.declared.entry.unwatched.Unwatched.{Unwatched}
-use Rattle.daybook.specs.Books.{all_used, above}
+use Rattle.daybook.specs.Books.{all_used}
+use Rattle.playback.specs.Days.{is_after}
 use Rattle.daybook.specs.declared.entry.alarm.Alarm.{Alarm}
 use Rattle.playback.specs.Rest.{Rest, behind_count, moved_if}
 use Rattle.playback.specs.Watch.{Watch, Places, done, round_done, watched_count, round, round_of, settled_slip, shown, watched, count_read}
@@ -59,7 +60,7 @@ pub watched_refused : (t : Terms) (s : Standing) (ents : List Alarm) (day count 
     round (Err f) s' ents' ≡ watched t s ents day count → Same s ents s' ents'
 watched_refused t s ents day count f s' ents' e = in_state t s.state s.tag s.ledger s.rounds s.alarms s.row s.strategy ents day count f s' ents' e
 
-goes_to_round : (t : Terms) (p : Places) (w : Watch) (number day count : ℕ) (st : State) → st ≡ w.standing.state → (st ≡ Rung → ⊥) → above w.last day ≡ true → all_used p.alarms w.alarms ≡ false →
+goes_to_round : (t : Terms) (p : Places) (w : Watch) (number day count : ℕ) (st : State) → st ≡ w.standing.state → (st ≡ Rung → ⊥) → is_after w.last day ≡ true → all_used p.alarms w.alarms ≡ false →
     watched_count t w day count ≡ count_read t p w number day count
 goes_to_round t p w number day count Armed e calm later room = rw (later, ← e, room) refl
 goes_to_round t p w number day count Staked e calm later room = rw (later, ← e, room) refl
@@ -78,7 +79,7 @@ round_ends t s rest ents us day count (Err f) s' ents' rest' e moved =
     ap (done (Err f)) back ∙ ap (λ x. round_done (watch s rest ents us) day x.answer x.standing x.alarms) e
 
 pub armed_done : (t : Terms) (p : Places) (s : Standing) (rest : Rest) (ents : List Alarm) (us : List Unwatched) (number day count : ℕ) (st : State) (r : Result (Unit {0}) ReplayFault) (s' : Standing) (ents' : List Alarm) (rest' : Rest) →
-    st ≡ s.state → (st ≡ Rung → ⊥) → above rest.last day ≡ true → all_used p.alarms ents ≡ false →
+    st ≡ s.state → (st ≡ Rung → ⊥) → is_after rest.last day ≡ true → all_used p.alarms ents ≡ false →
     round r s' ents' ≡ watched t s ents day count → rest' ≡ moved_if r (behind_count day rest) rest → done r (watch s' rest' ents' us) ≡ count_read t p (watch s rest ents us) number day count
 armed_done t p s rest ents us number day count st r s' ents' rest' at calm later room e moved =
     round_ends t s rest ents us day count r s' ents' rest' e moved ∙ goes_to_round t p (watch s rest ents us) number day count st at calm later room

@@ -15,12 +15,14 @@ use Rattle.edetector.proofs.Standings.{after_stake, standing}
 use Rattle.edetector.specs.States.{is_staked}
 use Rattle.plantlog.specs.Format.{Fields, Table, Setup, Alternative, Count, Rearm, End}
 use Rattle.daybook.specs.declared.entry.unwatched.Unwatched.{Unwatched}
-use Rattle.daybook.specs.Books.{all_used, above}
+use Rattle.daybook.specs.Books.{all_used}
+use Rattle.playback.specs.Days.{is_after}
 use Rattle.daybook.specs.declared.entry.alarm.Alarm.{Alarm}
 use Rattle.playback.specs.declared.stop.ReplayFault.{ReplayFault}
 use Rattle.playback.specs.declared.stop.ReplayFault.TheVariants.{Record, Monitor, Book, NotAllowed, DayNotAbove, CountsDiffer, Trailing}
 use Rattle.playback.specs.declared.stop.Fault.{Fault}
-use Rattle.plantlog.specs.declared.fault.RecordFault.TheVariants.{NoneLeft}
+use Rattle.plantlog.specs.declared.fault.FrontFault.TheVariants.{NoneLeft}
+use Rattle.plantlog.specs.declared.fault.RecordFault.TheVariants.{Front}
 use Rattle.daybook.specs.declared.fault.BookFault.TheVariants.{Full}
 use Rattle.playback.specs.Stream.{Stream, Over, Broken, Next}
 use Rattle.playback.specs.Watch.{Watch, Places, Done, faulted, counted, alarm_if, Round, shown, watched, round_done, passed, by_state, restood, count_read, rearm_read}
@@ -110,12 +112,12 @@ watch s last counts ents us = record { standing = s; last = last; counts = count
 
 module _ (t : Terms) (p : Places) (n : ℕ) (rest : Stream) (ih : (at : Spot) (w : Watch) → WholeCourse t p rest at w (watching t p rest at w)) (at : Spot) (day count : ℕ) where
   abbrev On : Watch → Done → Type 0
-  On w d = WholeCourse t p (Next (Count day count) n rest) at w (went at (watching t p rest (behind at n)) d.answer d.after)
+  On w d = WholeCourse t p (Next (Count (record { day = day }) count) n rest) at w (went at (watching t p rest (behind at n)) d.answer d.after)
 
   stays : (w : Watch) (f : ReplayFault) → NoCount (free_in p w) w day f → On w (faulted w f)
-  stays w f why = still t p (Next (Count day count) n rest) at w f why
+  stays w f why = still t p (Next (Count (record { day = day }) count) n rest) at w f why
 
-  module _ (tag m r al : ℕ) (row : List ℕ) (play : Strategy) (last : Option ℕ) (counts : ℕ) (ents : List Alarm) (us : List Unwatched) (later : above last day ≡ true) where
+  module _ (tag m r al : ℕ) (row : List ℕ) (play : Strategy) (last : Option ℕ) (counts : ℕ) (ents : List Alarm) (us : List Unwatched) (later : is_after last day ≡ true) where
     abbrev armed : Watch
     armed = watch (standing tag Armed m r al row play) last counts ents us
 
@@ -128,7 +130,7 @@ module _ (t : Terms) (p : Places) (n : ℕ) (rest : Stream) (ih : (at : Spot) (w
     abbrev entered : Watch
     entered = counted armed day after (alarm_if rang day after ents) us
 
-    is_settling : ltb r 1000000 ≡ true → all_used p.alarms ents ≡ false → Leads t p (Count day count) at armed entered (Settled day count)
+    is_settling : ltb r 1000000 ≡ true → all_used p.alarms ents ≡ false → Leads t p (Count (record { day = day }) count) at armed entered (Settled day count)
     is_settling left room =
         let next_is = armed_next t tag m r al row play day count left in
         record {
@@ -151,36 +153,36 @@ module _ (t : Terms) (p : Places) (n : ℕ) (rest : Stream) (ih : (at : Spot) (w
     by_rounds room true left =
         let fits = settled_fits t tag m r al (play []) play ents day count _ refl in
         subst (λ (x : Round). On armed (round_done armed day x.answer x.standing x.alarms)) (sym fits)
-        (begins t p (Count day count) n rest at armed entered _ (Settled day count) (is_settling left room) (ih (behind at n) entered))
+        (begins t p (Count (record { day = day }) count) n rest at armed entered _ (Settled day count) (is_settling left room) (ih (behind at n) entered))
     by_rounds room false left = stays armed (Monitor Spent) (later, has_free p.alarms (length ents) room, refl, spent r left)
 
     armed_course : (b : Bool) → all_used p.alarms ents ≡ b → On armed (cond b (faulted armed (Book Full)) (round_done armed day (watched t armed.standing ents day count).answer (watched t armed.standing ents day count).standing (watched t armed.standing ents day count).alarms))
     armed_course true room = stays armed (Book Full) (later, none_free p.alarms (length ents) room)
     armed_course false room = by_rounds room (ltb r 1000000) refl
 
-  staked_course : (w : Watch) → w.standing.state ≡ Staked → above w.last day ≡ true → (b : Bool) → all_used p.alarms w.alarms ≡ b → On w (cond b (faulted w (Book Full)) (faulted w (Monitor NotArmed)))
+  staked_course : (w : Watch) → w.standing.state ≡ Staked → is_after w.last day ≡ true → (b : Bool) → all_used p.alarms w.alarms ≡ b → On w (cond b (faulted w (Book Full)) (faulted w (Monitor NotArmed)))
   staked_course w e later true room = stays w (Book Full) (later, rw e (none_free p.alarms (length w.alarms) room))
   staked_course w e later false room = stays w (Monitor NotArmed) (later, has_free p.alarms (length w.alarms) room, e)
 
-  rung_course : (w : Watch) → w.standing.state ≡ Rung → above w.last day ≡ true → (b : Bool) → all_used p.unwatched w.unwatched ≡ b → On w (cond b (faulted w (Book Full)) (passed w at.number day))
+  rung_course : (w : Watch) → w.standing.state ≡ Rung → is_after w.last day ≡ true → (b : Bool) → all_used p.unwatched w.unwatched ≡ b → On w (cond b (faulted w (Book Full)) (passed w at.number day))
   rung_course w e later true room = stays w (Book Full) (later, rw e (none_free p.unwatched (length w.unwatched) room))
   rung_course w e later false room =
       let w1 = counted w day w.standing w.alarms (w.unwatched ++ (record { day = day; «record» = at.number } ∷ [])) in
-      let leads : Leads t p (Count day count) at w w1 (Passed day at.number) = record { of = (count, refl, refl); rightly = (e, has_free p.unwatched (length w.unwatched) room); standing = refl; alarms = sym (append-nil w.alarms); unwatched = refl; alarms_told = omega arith; settled = refl; counts = refl; last = refl; rising = (later, tt) } in
-      begins t p (Count day count) n rest at w w1 _ (Passed day at.number) leads (ih (behind at n) w1)
+      let leads : Leads t p (Count (record { day = day }) count) at w w1 (Passed day at.number) = record { of = (count, refl, refl); rightly = (e, has_free p.unwatched (length w.unwatched) room); standing = refl; alarms = sym (append-nil w.alarms); unwatched = refl; alarms_told = omega arith; settled = refl; counts = refl; last = refl; rising = (later, tt) } in
+      begins t p (Count (record { day = day }) count) n rest at w w1 _ (Passed day at.number) leads (ih (behind at n) w1)
 
-  in_state : (st : State) (tag m r al : ℕ) (row : List ℕ) (play : Strategy) (last : Option ℕ) (counts : ℕ) (ents : List Alarm) (us : List Unwatched) → above last day ≡ true →
+  in_state : (st : State) (tag m r al : ℕ) (row : List ℕ) (play : Strategy) (last : Option ℕ) (counts : ℕ) (ents : List Alarm) (us : List Unwatched) → is_after last day ≡ true →
       On (watch (standing tag st m r al row play) last counts ents us) (by_state st t p (watch (standing tag st m r al row play) last counts ents us) at.number day count)
   in_state Armed tag m r al row play last counts ents us later = armed_course tag m r al row play last counts ents us later (all_used p.alarms ents) refl
   in_state Staked tag m r al row play last counts ents us later = staked_course (watch (standing tag Staked m r al row play) last counts ents us) refl later (all_used p.alarms ents) refl
   in_state Rung tag m r al row play last counts ents us later = rung_course (watch (standing tag Rung m r al row play) last counts ents us) refl later (all_used p.unwatched us) refl
 
-  by_day : (w : Watch) (b : Bool) → above w.last day ≡ b → On w (cond b (by_state w.standing.state t p w at.number day count) (faulted w DayNotAbove))
+  by_day : (w : Watch) (b : Bool) → is_after w.last day ≡ b → On w (cond b (by_state w.standing.state t p w at.number day count) (faulted w DayNotAbove))
   by_day w true later = in_state w.standing.state w.standing.tag w.standing.ledger w.standing.rounds w.standing.alarms w.standing.row w.standing.strategy w.last w.counts w.alarms w.unwatched later
   by_day w false later = stays w DayNotAbove later
 
   count_course : (w : Watch) → On w (count_read t p w at.number day count)
-  count_course w = by_day w (above w.last day) refl
+  count_course w = by_day w (is_after w.last day) refl
 
 module _ (t : Terms) (p : Places) (n : ℕ) (rest : Stream) (ih : (at : Spot) (w : Watch) → WholeCourse t p rest at w (watching t p rest at w)) (at : Spot) where
   rearms : (w w1 : Watch) → (w.standing.state ≡ Staked → ⊥) → w1 ≡ restood w (rearm_outcome t w.standing).after → Leads t p Rearm at w w1 Rearmed
@@ -201,7 +203,7 @@ module _ (t : Terms) (p : Places) (n : ℕ) (rest : Stream) (ih : (at : Spot) (w
       let w = watch (standing tag Rung m r al row play) last counts ents us in
       begins t p Rearm n rest at w (rearm_read t w).after _ Rearmed (rearms w _ (λ e. cc) refl) (ih (behind at n) (rearm_read t w).after)
 
--- bytes follow the end
+-- an end that is not the last of the log
 followed : (t : Terms) (p : Places) (counts n : ℕ) (rest : Stream) (at : Spot) (w : Watch) → counts ≡ w.counts → (rest ≡ Over → ⊥) → WholeCourse t p (Next (End counts) n rest) at w (stopped w (fault_at (behind at n) Trailing))
 followed t p counts n rest at w e more = no_event t p (Next (End counts) n rest) at w (fault_at (behind at n) Trailing) (inr (n, rest, ap (λ c. Next (End c) n rest) e, more, refl))
 
@@ -216,12 +218,12 @@ end_course t p counts n rest at w true e = end_still t p counts n rest at w (eqb
 end_course t p counts n rest at w false e = still t p (Next (End counts) n rest) at w CountsDiffer (refl, other_count counts w.counts e)
 
 pub has_whole_course : HasWholeCourse
-has_whole_course t p Over at w = still t p Over at w (Record NoneLeft) refl
+has_whole_course t p Over at w = still t p Over at w (Record (Front NoneLeft)) refl
 has_whole_course t p (Broken e) at w = still t p (Broken e) at w (Record e) refl
 has_whole_course t p (Next (Table ws) n rest) at w = still t p (Next (Table ws) n rest) at w NotAllowed refl
-has_whole_course t p (Next (Setup a r b) n rest) at w = still t p (Next (Setup a r b) n rest) at w NotAllowed refl
+has_whole_course t p (Next (Setup s) n rest) at w = still t p (Next (Setup s) n rest) at w NotAllowed refl
 has_whole_course t p (Next (Alternative ws) n rest) at w = still t p (Next (Alternative ws) n rest) at w NotAllowed refl
-has_whole_course t p (Next (Count day count) n rest) at w = count_course t p n rest (λ at' w'. has_whole_course t p rest at' w') at day count w
+has_whole_course t p (Next (Count head count) n rest) at w = count_course t p n rest (λ at' w'. has_whole_course t p rest at' w') at head.day count w
 has_whole_course t p (Next Rearm n rest) at w =
     rearm_course t p n rest (λ at' w'. has_whole_course t p rest at' w') at w.standing.state w.standing.tag w.standing.ledger w.standing.rounds w.standing.alarms w.standing.row w.standing.strategy w.last w.counts w.alarms w.unwatched
 has_whole_course t p (Next (End counts) n rest) at w = end_course t p counts n rest at w (eqb counts w.counts) refl

@@ -2,6 +2,7 @@
 use Rattle.std.proofs.Common.{◌≡◌, ℕ, ◌≤◌, ◌-◌, ◌+◌, Bool, true, List, length, drop, Ok, Result, sym, ap, ap₂, ◌∙◌, subst, arith}
 use Rattle.std.proofs.lemmas.List.{length-take-le, drop-drop}
 use Rattle.daybook.specs.declared.book.Book.{Book}
+use Rattle.daybook.specs.declared.entry.Keyed.{Ghosts as Keyed}
 use Rattle.daybook.specs.Books.{entries_of, Keeps}
 use Rattle.edetector.specs.Monitors.{Terms}
 use Rattle.playback.specs.declared.stop.ReplayFault.{ReplayFault}
@@ -13,7 +14,7 @@ use Rattle.playback.specs.Stepping.{comes_to, Stepped, GoesOn, IfOn}
 use Rattle.playback.specs.Watch.{Watch}
 use Rattle.playback.specs.Held.{places_lent, Grows, KeepsBooks}
 
-keeps_on : {X : Type 0} (a b c : Book X) → Keeps a b → Keeps b c → length (entries_of b) ≤ length (entries_of c) → Keeps a c
+keeps_on : {X : Type 0} {K : Keyed X} (a b c : Book X K) → Keeps a b → Keeps b c → length (entries_of b) ≤ length (entries_of c) → Keeps a c
 keeps_on {X = X} a b c k1 k2 h =
     let k : ℕ = length (entries_of b) in
     let n : ℕ = length (entries_of c) in
@@ -26,7 +27,7 @@ keeps_on {X = X} a b c k1 k2 h =
       unused = k2.unused ∙ sym (shift b.places.now) ∙ ap (drop (n - k)) behind ∙ shift a.places.now;
     }
 
-grows_on : {X : Type 0} (a b c : Book X) → Grows a b → Grows b c → Grows a c
+grows_on : {X : Type 0} {K : Keyed X} (a b c : Book X K) → Grows a b → Grows b c → Grows a c
 grows_on a b c g h = record { kept = keeps_on a b c g.kept h.kept h.more; more = omega (arith, g.more, h.more) }
 
 pub books_kept : (a b c : Books) → KeepsBooks a b → KeepsBooks b c → KeepsBooks a c

@@ -2,7 +2,8 @@
 use Rattle.std.proofs.Common.{◌≡◌, ℕ, zero, suc, List, [], ◌∷◌, length, Ok, Err, Result, sym, ap, ◌∙◌, ap₂}
 use Rattle.std.proofs.lemmas.List.{append-nil}
 use Rattle.plantlog.specs.declared.fault.RecordFault.{RecordFault}
-use Rattle.plantlog.specs.declared.fault.RecordFault.TheVariants.{NoneLeft}
+use Rattle.plantlog.specs.declared.fault.FrontFault.TheVariants.{NoneLeft}
+use Rattle.plantlog.specs.declared.fault.RecordFault.TheVariants.{Front}
 use Rattle.plantlog.specs.Format.{Fields}
 use Rattle.plantlog.specs.FirstRecord.{first_record}
 use Rattle.plantlog.specs.Laws.{AllWritable, log_bytes, records_in}
@@ -36,7 +37,7 @@ tail bs k fs e =
 none_read : (bs : List ℕ) (k : ℕ) (fs : List Fields) → bs ≡ [] → records_in (suc k) bs ≡ Ok (fs, []) → ⊥
 none_read bs k fs none e =
     let t = tail bs k fs e in
-    let no : ◌≡◌ {A = Result (Fields × List ℕ) RecordFault} (Err NoneLeft) (Ok (t.first, t.rest)) = sym none_in_front ∙ sym (ap first_record none) ∙ t.front in
+    let no : ◌≡◌ {A = Result (Fields × List ℕ) RecordFault} (Err (Front NoneLeft)) (Ok (t.first, t.rest)) = sym none_in_front ∙ sym (ap first_record none) ∙ t.front in
     cc
 
 same_read : (j k : ℕ) (bs : List ℕ) (fs gs : List Fields) → records_in j bs ≡ Ok (fs, []) → records_in k bs ≡ Ok (gs, []) → fs ≡ gs

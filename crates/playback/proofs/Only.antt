@@ -55,9 +55,9 @@ module _ (t : Terms) (p : Places) where
   not_taken Over at w cause why = ap (λ c. stopped w (fault_at at c)) (sym why)
   not_taken (Broken e) at w cause why = ap (λ c. stopped w (fault_at at c)) (sym why)
   not_taken (Next (Table ws) n rest) at w cause why = ap (λ c. stopped w (fault_at at c)) (sym why)
-  not_taken (Next (Setup a r b) n rest) at w cause why = ap (λ c. stopped w (fault_at at c)) (sym why)
+  not_taken (Next (Setup s) n rest) at w cause why = ap (λ c. stopped w (fault_at at c)) (sym why)
   not_taken (Next (Alternative ws) n rest) at w cause why = ap (λ c. stopped w (fault_at at c)) (sym why)
-  not_taken (Next (Count day count) n rest) at w cause why = ap (λ d. went at (watching t p rest (behind at n)) d.answer d.after) (no_count t p at.number day count w cause why)
+  not_taken (Next (Count head count) n rest) at w cause why = ap (λ d. went at (watching t p rest (behind at n)) d.answer d.after) (no_count t p at.number head.day count w cause why)
   not_taken (Next Rearm n rest) at w cause why =
       ap (λ d. went at (watching t p rest (behind at n)) d.answer d.after) (rearm_refused t w.standing.state w.standing.tag w.standing.ledger w.standing.rounds w.standing.alarms w.standing.row w.standing.strategy w.last w.counts w.alarms w.unwatched why.1)
       ∙ ap (λ c. stopped w (fault_at at c)) (sym why.0)
@@ -106,12 +106,12 @@ module _ (t : Terms) (p : Places) where
       let some : w.standing.rounds < 1000000 = right.1 in
       let left : ltb w.standing.rounds 1000000 ≡ true = grind (arith, nat_tests) in
       let read = settled_read t p at.number day count w.standing.state w.standing.tag w.standing.ledger w.standing.rounds w.standing.alarms w.standing.row w.standing.strategy w.last w.counts w.alarms w.unwatched right.0 c.rising.0 (has_place p.alarms (length w.alarms) right.2) left in
-      comes es rest (behind at n) (led t w (Settled day count)) f (later t p g n rest at w f (Settled day count) es c) ∙ sym (goes g (Count day count) n rest at w (led t w (Settled day count)) _ c.of_log.0 refl read)
+      comes es rest (behind at n) (led t w (Settled day count)) f (later t p g n rest at w f (Settled day count) es c) ∙ sym (goes g (Count (record { day = day }) count) n rest at w (led t w (Settled day count)) _ c.of_log.0 refl read)
   comes (Passed day number ∷ es) (Next g n rest) at w f c =
       let right = c.rightly.0 in
       let of = c.of_log.0 in
       let read = passed_read t p at.number day of.0 w right.0 c.rising.0 (has_place p.unwatched (length w.unwatched) right.1) ∙ ap (λ k. taken (led t w (Passed day k))) (sym of.2) in
-      comes es rest (behind at n) (led t w (Passed day number)) f (later t p g n rest at w f (Passed day number) es c) ∙ sym (goes g (Count day of.0) n rest at w (led t w (Passed day number)) _ of.1 refl read)
+      comes es rest (behind at n) (led t w (Passed day number)) f (later t p g n rest at w f (Passed day number) es c) ∙ sym (goes g (Count (record { day = day }) of.0) n rest at w (led t w (Passed day number)) _ of.1 refl read)
   comes (Rearmed ∷ es) (Next g n rest) at w f c =
       let read = rearm_taken t w.standing.state w.standing.tag w.standing.ledger w.standing.rounds w.standing.alarms w.standing.row w.standing.strategy w.last w.counts w.alarms w.unwatched c.rightly.0 ∙ ap taken (rearm_led t w) in
       comes es rest (behind at n) (led t w Rearmed) f (later t p g n rest at w f Rearmed es c) ∙ sym (goes g Rearm n rest at w (led t w Rearmed) _ c.of_log.0 refl read)

@@ -14,7 +14,8 @@ use Rattle.edetector.specs.Monitors.{Terms, outcome, standing_after, is_ringing,
 use Rattle.edetector.proofs.Standings.{after_stake, standing}
 use Rattle.daybook.specs.declared.fault.BookFault.TheVariants.{Full}
 use Rattle.daybook.specs.declared.entry.unwatched.Unwatched.{Unwatched}
-use Rattle.daybook.specs.Books.{all_used, above}
+use Rattle.daybook.specs.Books.{all_used}
+use Rattle.playback.specs.Days.{is_after}
 use Rattle.daybook.specs.declared.entry.alarm.Alarm.{Alarm}
 use Rattle.playback.specs.declared.stop.ReplayFault.{ReplayFault}
 use Rattle.playback.specs.declared.stop.ReplayFault.TheVariants.{Monitor, Book, DayNotAbove}
@@ -37,7 +38,7 @@ led t w e = record {
 module _ (t : Terms) (p : Places) (number day count : ℕ) where
   armed_read : (tag m r al : ℕ) (row : List ℕ) (play : Strategy) (last : Option ℕ) (counts : ℕ) (ents : List Alarm) (us : List Unwatched) →
       let w : Watch = record { standing = standing tag Armed m r al row play; last = last; counts = counts; alarms = ents; unwatched = us } in
-      above last day ≡ true → all_used p.alarms ents ≡ false → ltb r 1000000 ≡ true → count_read t p w number day count ≡ taken (led t w (Settled day count))
+      is_after last day ≡ true → all_used p.alarms ents ≡ false → ltb r 1000000 ≡ true → count_read t p w number day count ≡ taken (led t w (Settled day count))
   armed_read tag m r al row play last counts ents us rises room left =
       let w : Watch = record { standing = standing tag Armed m r al row play; last = last; counts = counts; alarms = ents; unwatched = us } in
       let after = standing_after t (standing tag Staked m r al (play []) play) (class_of (length t.nulls) count) in
@@ -55,15 +56,15 @@ module _ (t : Terms) (p : Places) (number day count : ℕ) where
 
   pub settled_read : (st : State) (tag m r al : ℕ) (row : List ℕ) (play : Strategy) (last : Option ℕ) (counts : ℕ) (ents : List Alarm) (us : List Unwatched) →
       let w : Watch = record { standing = standing tag st m r al row play; last = last; counts = counts; alarms = ents; unwatched = us } in
-      st ≡ Armed → above last day ≡ true → all_used p.alarms ents ≡ false → ltb r 1000000 ≡ true → count_read t p w number day count ≡ taken (led t w (Settled day count))
+      st ≡ Armed → is_after last day ≡ true → all_used p.alarms ents ≡ false → ltb r 1000000 ≡ true → count_read t p w number day count ≡ taken (led t w (Settled day count))
   settled_read Armed tag m r al row play last counts ents us is rises room left = armed_read tag m r al row play last counts ents us rises room left
   settled_read Staked tag m r al row play last counts ents us is rises room left = cc
   settled_read Rung tag m r al row play last counts ents us is rises room left = cc
 
-  by_state_is : (w : Watch) (st : State) → w.standing.state ≡ st → above w.last day ≡ true → count_read t p w number day count ≡ by_state st t p w number day count
+  by_state_is : (w : Watch) (st : State) → w.standing.state ≡ st → is_after w.last day ≡ true → count_read t p w number day count ≡ by_state st t p w number day count
   by_state_is w st is rises = ap (λ b. cond b (by_state w.standing.state t p w number day count) (faulted w DayNotAbove)) rises ∙ ap (λ x. by_state x t p w number day count) is
 
-  pub passed_read : (w : Watch) → w.standing.state ≡ Rung → above w.last day ≡ true → all_used p.unwatched w.unwatched ≡ false → count_read t p w number day count ≡ taken (led t w (Passed day number))
+  pub passed_read : (w : Watch) → w.standing.state ≡ Rung → is_after w.last day ≡ true → all_used p.unwatched w.unwatched ≡ false → count_read t p w number day count ≡ taken (led t w (Passed day number))
   passed_read w is rises room =
       by_state_is w Rung is rises ∙ ap (λ b. cond b (faulted w (Book Full)) (passed w number day)) room
       ∙ ap (λ a. taken (counted w day w.standing a (w.unwatched ++ (record { day = day; «record» = number } ∷ [])))) (sym (append-nil w.alarms))

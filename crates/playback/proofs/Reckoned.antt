@@ -1,7 +1,11 @@
 -- The worked figures, by computing them.
 use Rattle.std.proofs.Common.{refl, arith}
-use Rattle.plantlog.proofs.NumberLaws.{examples}
+use Rattle.plantlog.specs.Numbers.{number_bytes, first_number, NumberExamples}
 use Rattle.playback.specs.Figures.{Figures}
+
+examples : NumberExamples
+unfolding number_bytes first_number
+examples = (refl, refl, refl, refl, refl)
 
 pub reckoned : Figures
 reckoned = record {

@@ -12,7 +12,9 @@ use Rattle.playback.specs.declared.stop.ReplayFault.{ReplayFault}
 use Rattle.playback.specs.declared.stop.ReplayFault.TheVariants.{Book, DayNotAbove}
 use Rattle.daybook.specs.declared.fault.BookFault.TheVariants.{Full}
 use Rattle.daybook.specs.declared.entry.unwatched.Unwatched.{Unwatched}
-use Rattle.daybook.specs.Books.{all_used, above, above_in}
+use Rattle.daybook.specs.Books.{all_used}
+use Rattle.daybook.specs.Keys.{above_in}
+use Rattle.playback.specs.Days.{is_after}
 use Rattle.daybook.specs.declared.entry.alarm.Alarm.{Alarm}
 use Rattle.playback.specs.Rising.{Later, Rising}
 use Rattle.playback.specs.Watch.{Watch, Places, Done, done, faulted, counted, round_of, shown, watched, round_done, by_state, count_read}
@@ -22,13 +24,13 @@ above_push key [] v d = refl
 above_push key (x ∷ []) v d = refl
 above_push key (x ∷ y ∷ xs) v d = above_push key (y ∷ xs) v d
 
--- what is above a later day is above an earlier one
-still_above : (last : Option ℕ) (day d : ℕ) → above last day ≡ true → ltb day d ≡ true → above last d ≡ true
-still_above None day d h l = refl
-still_above (Some x) day d h l = grind (arith, nat_tests)
+-- what is after a later day is after an earlier one
+still_after : (last : Option ℕ) (day d : ℕ) → is_after last day ≡ true → ltb day d ≡ true → is_after last d ≡ true
+still_after None day d h l = refl
+still_after (Some x) day d h l = grind (arith, nat_tests)
 
-later_same : {X : Type 0} (key : X → ℕ) (last : Option ℕ) (day : ℕ) (xs : List X) → above last day ≡ true → Later key last xs → Later key (Some day) xs
-later_same key last day xs h all d l = all d (still_above last day d h l)
+later_same : {X : Type 0} (key : X → ℕ) (last : Option ℕ) (day : ℕ) (xs : List X) → is_after last day ≡ true → Later key last xs → Later key (Some day) xs
+later_same key last day xs h all d l = all d (still_after last day d h l)
 
 later_push : {X : Type 0} (key : X → ℕ) (day : ℕ) (xs : List X) (v : X) → key v ≡ day → Later key (Some day) (xs ++ (v ∷ []))
 later_push key day xs v e d l = above_push key xs v d ∙ ap (λ n. ltb n d) e ∙ l
@@ -37,7 +39,7 @@ later_push key day xs v e d l = above_push key xs v d ∙ ap (λ n. ltb n d) e �
 abbrev Grown : {X : Type 0} → (X → ℕ) → ℕ → List X → List X → Type 0
 Grown {X} key day xs ys = (ys ≡ xs) ⊎ ((v : X) × (key v ≡ day) × (ys ≡ xs ++ (v ∷ [])))
 
-grown_later : {X : Type 0} (key : X → ℕ) (last : Option ℕ) (day : ℕ) (xs ys : List X) → above last day ≡ true → Later key last xs → Grown key day xs ys → Later key (Some day) ys
+grown_later : {X : Type 0} (key : X → ℕ) (last : Option ℕ) (day : ℕ) (xs ys : List X) → is_after last day ≡ true → Later key last xs → Grown key day xs ys → Later key (Some day) ys
 grown_later key last day xs ys h all (inl e) = rw e (later_same key last day xs h all)
 grown_later key last day xs ys h all (inr g) = let e = g.2 in rw e (later_push key day xs g.0 g.1)
 
@@ -89,6 +91,6 @@ by_day w w' false x e = absurd (taken_not_faulted w w' DayNotAbove e)
 
 pub count_rises : (t : Terms) (p : Places) (w w' : Watch) (number day count : ℕ) → done (Ok tt) w' ≡ count_read t p w number day count → Rising w → Rising w'
 count_rises t p w w' number day count e rises =
-    let d = by_day w w' (above w.last day) (by_state w.standing.state t p w number day count) e in
+    let d = by_day w w' (is_after w.last day) (by_state w.standing.state t p w number day count) e in
     let k = in_state w.standing.state t p w w' number day count d.1 in
     subst Rising (sym k.3) (record { alarms = grown_later (λ a. a.day) w.last day w.alarms k.1 d.0 rises.alarms k.4; unwatched = grown_later (λ u. u.day) w.last day w.unwatched k.2 d.0 rises.unwatched k.5 })

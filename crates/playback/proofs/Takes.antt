@@ -1,5 +1,5 @@
 -- The writing of the records of a log is replayed without a fault.
-use Rattle.std.proofs.Common.{◌≡◌, ℕ, ◌+◌, ◌*◌, ◌≤◌, Bool, true, false, cond, eqb, ltb, leb, List, [], ◌∷◌, length, Some, None, Ok, Err, sym, refl, ap, ◌∙◌, subst, arith}
+use Rattle.std.proofs.Common.{◌≡◌, ℕ, ◌+◌, ◌*◌, ◌≤◌, Bool, true, false, cond, eqb, ltb, leb, List, [], ◌∷◌, length, Some, None, Ok, Err, Option, sym, refl, ap, ◌∙◌, subst, arith}
 use Rattle.std.proofs.lemmas.List.{length-append}
 use Rattle.std.proofs.lemmas.Bool.{le-leb}
 use Rattle.std.proofs.lemmas.Bool.Decides.{nat_tests}
@@ -15,9 +15,12 @@ use Rattle.edetector.proofs.Standings.{standing}
 use Rattle.plantlog.specs.declared.record.Setup.{Setup as SetupValue}
 use Rattle.plantlog.specs.Calls.{span}
 use Rattle.plantlog.specs.Format.{Fields, Table, Setup, Alternative, Count, Rearm, End, record_bytes}
-use Rattle.plantlog.specs.Laws.{Writable, AllWritable, log_bytes}
-use Rattle.plantlog.proofs.ReadBack.{setup_tests, read_back}
-use Rattle.daybook.specs.Books.{above}
+use Rattle.plantlog.specs.Laws.{AllWritable, log_bytes}
+use Rattle.plantlog.specs.Format.{Writable}
+use Rattle.plantlog.specs.declared.fault.RecordFault.{RecordFault}
+use Rattle.plantlog.specs.Layouts.{first_of}
+use Rattle.plantlog.proofs.ReadBack.{read_back}
+use Rattle.playback.specs.Days.{is_after}
 use Rattle.playback.specs.declared.stop.ReplayFault.TheVariants.{Value, CountsDiffer, TooLong}
 use Rattle.playback.specs.Accepted.{NoFault, WatchedRecords, AfterSetup, LogRecords, counts_in, Takes}
 use Rattle.playback.specs.Course.{Settled, Passed, after_event, alarm_of, passed_in}
@@ -40,7 +43,7 @@ unfolding record_bytes
 a_byte f = omega arith
 
 one_more : (f : Fields) (fs : List Fields) → counts_in (f ∷ fs) ≤ counts_in fs + 1
-one_more (Count day n) fs = omega arith
+one_more (Count head n) fs = omega arith
 one_more _ fs = omega arith
 
 few_counts : (fs : List Fields) → counts_in fs ≤ length (log_bytes fs)
@@ -99,15 +102,15 @@ module _ (t : Terms) (p : Places) where
       ∙ ap (λ x. x.fault) (does k (stream_of (log_bytes fs)))
       ∙ ap (λ d. (went at (watching t p (stream_of (log_bytes fs)) (behind at k)) d.answer d.after).fault) is ∙ rest
 
-  module _ (day n : ℕ) (fs : List Fields) (writable : Writable (Count day n)) (ih : Goes fs) (at : Spot) (w : Watch) (rises : above w.last day ≡ true) (ordered : WatchedRecords (Some day) (w.counts + 1) fs) (fine : Fine p w (counts_in fs + 1)) where
-    is_settling : w.standing.state ≡ Armed → NoneStops (Count day n ∷ fs) at w
+  module _ (day n : ℕ) (fs : List Fields) (writable : Writable (Count (record { day = day }) n)) (ih : Goes fs) (at : Spot) (w : Watch) (rises : is_after w.last day ≡ true) (ordered : WatchedRecords (Some day) (w.counts + 1) fs) (fine : Fine p w (counts_in fs + 1)) where
+    is_settling : w.standing.state ≡ Armed → NoneStops (Count (record { day = day }) n ∷ fs) at w
     is_settling is =
         let s = w.standing in
         let left = rounds_left s.rounds (counts_in fs) fine.rounds in
         let read = settled_read t p at.number day n s.state s.tag s.ledger s.rounds s.alarms s.row s.strategy w.last w.counts w.alarms w.unwatched is rises (not_full p.alarms (length w.alarms) (counts_in fs) fine.alarms) left in
         let after = after_settled t s.state s.tag s.ledger s.rounds s.alarms s.row s.strategy day n is left in
         let later = after_event t s (Settled day n) in
-        goes_on (Count day n) fs writable at w (led t w (Settled day n)) _ (λ k rest. refl) read
+        goes_on (Count (record { day = day }) n) fs writable at w (led t w (Settled day n)) _ (λ k rest. refl) read
         (ih _ (led t w (Settled day n)) ordered (record {
           calm = after.0;
           rounds = omega (arith, after.1, fine.rounds);
@@ -115,10 +118,10 @@ module _ (t : Terms) (p : Places) where
           unwatched = omega (arith, fine.unwatched, length-append w.unwatched []);
         }))
 
-    passes : w.standing.state ≡ Rung → NoneStops (Count day n ∷ fs) at w
+    passes : w.standing.state ≡ Rung → NoneStops (Count (record { day = day }) n ∷ fs) at w
     passes is =
         let read = passed_read t p at.number day n w is rises (not_full p.unwatched (length w.unwatched) (counts_in fs) fine.unwatched) in
-        goes_on (Count day n) fs writable at w (led t w (Passed day at.number)) _ (λ k rest. refl) read
+        goes_on (Count (record { day = day }) n) fs writable at w (led t w (Passed day at.number)) _ (λ k rest. refl) read
         (ih _ (led t w (Passed day at.number)) ordered (record {
           calm = fine.calm;
           rounds = omega (arith, fine.rounds);
@@ -126,7 +129,7 @@ module _ (t : Terms) (p : Places) where
           unwatched = omega (arith, fine.unwatched, length-append w.unwatched (passed_in (Passed day at.number)));
         }))
 
-    counted_on : (st : State) → w.standing.state ≡ st → NoneStops (Count day n ∷ fs) at w
+    counted_on : (st : State) → w.standing.state ≡ st → NoneStops (Count (record { day = day }) n ∷ fs) at w
     counted_on Armed is = is_settling is
     counted_on Staked is = absurd (fine.calm is)
     counted_on Rung is = passes is
@@ -151,8 +154,8 @@ module _ (t : Terms) (p : Places) where
       ∙ ap (λ b. (went at (at_end Over (behind at (span (log_bytes (End n ∷ []))))) (cond b (Ok tt) (Err CountsDiffer)) w).fault) same
 
   goes_through : (fs : List Fields) → AllWritable fs → Goes fs
-  goes_through (Count day n ∷ fs) writable at w ordered fine =
-      counted_on day n fs writable.0 (λ at w o f. goes_through fs writable.1 at w o f) at w ordered.0 ordered.1 fine w.standing.state refl
+  goes_through (Count head n ∷ fs) writable at w ordered fine =
+      counted_on head.day n fs writable.0 (λ at w o f. goes_through fs writable.1 at w o f) at w ordered.0 ordered.1 fine w.standing.state refl
   goes_through (Rearm ∷ fs) writable at w ordered fine = rearmed_on fs writable.0 (λ at w o f. goes_through fs writable.1 at w o f) at w ordered fine
   goes_through (End n ∷ []) writable at w ordered fine = ended_so n writable.0 at w ordered fine
   goes_through _ writable at w ordered fine = absurd ordered
@@ -198,13 +201,17 @@ module _ (p : Places) (ws : List ℕ) (x : SetupValue) (inside : is_within 1 409
   from_setup [] at writable after room = absurd after.1
   from_setup (f ∷ fs) at writable after room = without_alternative (f ∷ fs) at writable after.0 after.1 room
 
+threshold_kept : (b : Bool) (fault : RecordFault) (next : Option RecordFault) → first_of (cond b None (Some fault)) next ≡ None → b ≡ true
+threshold_kept true fault next e = refl
+threshold_kept false fault next e = cc
+
 from_table : (p : Places) (fs : List Fields) (at : Spot) → AllWritable fs → LogRecords fs → Room p (counts_in fs) → NoFault (replayed p (stream_of (log_bytes fs)) at).said
-from_table p (Table ws ∷ Setup a r b ∷ fs) at writable ordered room =
-    let gs = Setup a r b ∷ fs in
-    let tests = setup_tests (is_within 1 4096 a) (is_within 1 2 r) (is_within 1 3 b) writable.1.0.0 in
+from_table p (Table ws ∷ Setup s ∷ fs) at writable ordered room =
+    let gs = Setup s ∷ fs in
+    let known = threshold_kept (is_within 1 4096 s.threshold) _ _ writable.1.0.0 in
     let second = behind at (span (log_bytes (Table ws ∷ gs))) in
-    let is = ap (λ s. replayed p s at) (written_next (Table ws) gs writable.0) ∙ ap (λ s. after_table p ws s second) (written_next (Setup a r b) fs writable.1.0) in
-    let rest = from_setup p ws (record { threshold = a; rule = rule_named r; bettor = bettor_named b }) tests.0 fs (behind second (span (log_bytes gs))) writable.1.1 ordered room in
+    let is = ap (λ s. replayed p s at) (written_next (Table ws) gs writable.0) ∙ ap (λ s. after_table p ws s second) (written_next (Setup s) fs writable.1.0) in
+    let rest = from_setup p ws (record { threshold = s.threshold; rule = rule_named s.rule; bettor = bettor_named s.bettor }) known fs (behind second (span (log_bytes gs))) writable.1.1 ordered room in
     subst (λ (r : Replay). NoFault r.said) (sym is) rest
 from_table p _ at writable ordered room = absurd ordered
 

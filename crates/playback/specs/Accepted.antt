@@ -3,7 +3,7 @@ use Rattle.std.specs.Prelude.{◌≡◌, ℕ, ◌+◌, ◌≤◌, true, false, L
 use Rattle.plantlog.specs.declared.record.BettorChoice.{BettorChoice}
 use Rattle.plantlog.specs.Format.{Fields, Table, Setup, Alternative, Count, Rearm, End}
 use Rattle.plantlog.specs.Laws.{AllWritable, log_bytes}
-use Rattle.daybook.specs.Books.{above}
+use Rattle.playback.specs.Days.{is_after}
 use Rattle.playback.specs.declared.report.Run.{Run}
 use Rattle.playback.specs.declared.stop.Fault.{Fault}
 use Rattle.playback.specs.Front.{bettor_named}
@@ -19,7 +19,7 @@ NoFault (Ok run) = run.fault ≡ None
 -- behind so many counts, the last of a day: counts whose days rise, and rearms, in any number, then one end, which names
 -- how many counts there were
 abbrev pub WatchedRecords : Option ℕ → ℕ → List Fields → Type 0
-WatchedRecords last counts (Count day n ∷ fs) = (above last day ≡ true) × WatchedRecords (Some day) (counts + 1) fs
+WatchedRecords last counts (Count head n ∷ fs) = (is_after last head.day ≡ true) × WatchedRecords (Some head.day) (counts + 1) fs
 WatchedRecords last counts (Rearm ∷ fs) = WatchedRecords last counts fs
 WatchedRecords last counts (End n ∷ []) = n ≡ counts
 WatchedRecords last counts _ = ⊥
@@ -31,7 +31,7 @@ AfterSetup classes bettor fs = (has_alternative bettor ≡ false) × WatchedReco
 
 -- a table and a setup first
 abbrev pub LogRecords : List Fields → Type 0
-LogRecords (Table ws ∷ Setup threshold rule bettor ∷ fs) = AfterSetup (length ws) (bettor_named bettor) fs
+LogRecords (Table ws ∷ Setup s ∷ fs) = AfterSetup (length ws) (bettor_named s.bettor) fs
 LogRecords _ = ⊥
 
 -- the log is not too long, and it is the writing of such records, and of no others
@@ -46,7 +46,7 @@ pub record Accepted (log : List ℕ) : Type 0 where
 -- how many counts there are
 abbrev pub counts_in : List Fields → ℕ
 counts_in [] = 0
-counts_in (Count day n ∷ fs) = counts_in fs + 1
+counts_in (Count head n ∷ fs) = counts_in fs + 1
 counts_in (f ∷ fs) = counts_in fs
 
 -- and the writing of such records is replayed without a fault, if it is not too long and each of the two books has a place

@@ -7,11 +7,12 @@ use Rattle.edetector.specs.Tables.{class_of, unit_factor}
 use Rattle.edetector.specs.Monitors.{Terms, Standing, stake_outcome, rearm_outcome, next_outcome}
 use Rattle.edetector.specs.States.{most_rounds}
 use Rattle.edetector.specs.declared.fault.MonitorFault.TheVariants.{NotArmed, Spent}
-use Rattle.plantlog.specs.declared.fault.RecordFault.TheVariants.{NoneLeft}
+use Rattle.plantlog.specs.declared.fault.FrontFault.TheVariants.{NoneLeft}
+use Rattle.plantlog.specs.declared.fault.RecordFault.TheVariants.{Front}
 use Rattle.plantlog.specs.Format.{Fields, Count, Rearm, End}
 use Rattle.daybook.specs.declared.fault.BookFault.TheVariants.{Full}
 use Rattle.daybook.specs.declared.entry.unwatched.Unwatched.{Unwatched}
-use Rattle.daybook.specs.Books.{above}
+use Rattle.playback.specs.Days.{is_after}
 use Rattle.daybook.specs.declared.entry.alarm.Alarm.{Alarm}
 use Rattle.playback.specs.declared.stop.ReplayFault.{ReplayFault}
 use Rattle.playback.specs.declared.stop.ReplayFault.TheVariants.{Record, Monitor, Book, NotAllowed, DayNotAbove, CountsDiffer, Trailing}
@@ -65,10 +66,10 @@ abbrev pub days_of : List Event → List ℕ
 days_of [] = []
 days_of (e ∷ es) = day_of e ++ days_of es
 
--- each day is above the one before it, the first above the last count's so far
+-- each day is after the one before it, the first after the last count's so far
 abbrev pub RisingDays : Option ℕ → List ℕ → Type 0
 RisingDays last [] = Unit {0}
-RisingDays last (day ∷ days) = (above last day ≡ true) × RisingDays (Some day) days
+RisingDays last (day ∷ days) = (is_after last day ≡ true) × RisingDays (Some day) days
 
 abbrev pub last_day : Option ℕ → List ℕ → Option ℕ
 last_day last [] = last
@@ -99,8 +100,8 @@ AllRightly t free s (e ∷ es) = Rightly t free s e × AllRightly t (free_after 
 
 -- the record that an event is of, and its number in the log
 abbrev pub EventOf : Event → Fields → ℕ → Type 0
-EventOf (Settled day count) f number = f ≡ Count day count
-EventOf (Passed day told) f number = (n : ℕ) × (f ≡ Count day n) × (told ≡ number)
+EventOf (Settled day count) f number = f ≡ Count (record { day = day }) count
+EventOf (Passed day told) f number = (n : ℕ) × (f ≡ Count (record { day = day }) n) × (told ≡ number)
 EventOf Rearmed f number = f ≡ Rearm
 
 -- the events are of the log's records, one after the other
@@ -131,24 +132,24 @@ NoPlace Rung free = free.unwatched ≡ 0
 
 -- why a count of the day is not taken: its day is judged first, then the book, then the monitor
 abbrev pub NoCount : Places → Watch → ℕ → ReplayFault → Type 0
-NoCount free w day DayNotAbove = above w.last day ≡ false
-NoCount free w day (Book Full) = (above w.last day ≡ true) × NoPlace w.standing.state free
-NoCount free w day (Monitor NotArmed) = (above w.last day ≡ true) × (0 < free.alarms) × (w.standing.state ≡ Staked)
+NoCount free w day DayNotAbove = is_after w.last day ≡ false
+NoCount free w day (Book Full) = (is_after w.last day ≡ true) × NoPlace w.standing.state free
+NoCount free w day (Monitor NotArmed) = (is_after w.last day ≡ true) × (0 < free.alarms) × (w.standing.state ≡ Staked)
 NoCount free w day (Monitor Spent) =
-    (above w.last day ≡ true) × (0 < free.alarms) × (w.standing.state ≡ Armed) × (most_rounds ≤ w.standing.rounds)
+    (is_after w.last day ≡ true) × (0 < free.alarms) × (w.standing.state ≡ Armed) × (most_rounds ≤ w.standing.rounds)
 NoCount free w day _ = ⊥
 
 -- why the next record is not taken, or that there is none
 abbrev pub NotTaken : Places → Watch → Stream → ReplayFault → Type 0
-NotTaken free w Over cause = cause ≡ Record NoneLeft
+NotTaken free w Over cause = cause ≡ Record (Front NoneLeft)
 NotTaken free w (Broken e) cause = cause ≡ Record e
-NotTaken free w (Next (Count day count) n rest) cause = NoCount free w day cause
+NotTaken free w (Next (Count head count) n rest) cause = NoCount free w head.day cause
 NotTaken free w (Next Rearm n rest) cause = (cause ≡ Monitor NotArmed) × (w.standing.state ≡ Staked)
 NotTaken free w (Next (End counts) n rest) cause = (cause ≡ CountsDiffer) × (counts ≡ w.counts → ⊥)
 NotTaken free w (Next _ n rest) cause = cause ≡ NotAllowed
 
 -- a replay without a fault leaves only the end, which names the counts; one with a fault stops at the very next record,
--- for its reason, or behind an end that names the counts, after which bytes follow
+-- for its reason, or behind an end that names the counts and is not the last of the log
 abbrev pub Reached : Places → Watch → Spot → Stream → Option Fault → Type 0
 Reached free w at left None = (n : ℕ) × (left ≡ Next (End w.counts) n Over)
 Reached free w at left (Some f) =

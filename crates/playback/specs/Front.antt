@@ -32,7 +32,7 @@ abbrev pub bettor_named : ℕ → BettorChoice
 bettor_named b = if b == 1 then Fixed else if b == 2 then Adaptive else Mixture
 
 abbrev pub only_setup : Fields → Result SetupValue ReplayFault
-only_setup (Setup a r b) = Ok (record { threshold = a; rule = rule_named r; bettor = bettor_named b })
+only_setup (Setup s) = Ok (record { threshold = s.threshold; rule = rule_named s.rule; bettor = bettor_named s.bettor })
 only_setup _ = Err NotAllowed
 
 abbrev pub only_alternative : Fields → Result (List ℕ) ReplayFault
@@ -41,7 +41,7 @@ only_alternative _ = Err NotAllowed
 
 -- the number that a count in front says
 abbrev pub count_said : Fields → ℕ
-count_said (Count day n) = n
+count_said (Count head n) = n
 count_said _ = 0
 
 abbrev pub count_next : Result Fields ReplayFault → ℕ

@@ -1,6 +1,7 @@
 -- What the books hold, as plain data.
 use Rattle.std.specs.Prelude.{◌≡◌, ◌≤◌, [], length, None}
 use Rattle.daybook.specs.declared.book.Book.{Book}
+use Rattle.daybook.specs.declared.entry.Keyed.{Ghosts as Keyed}
 use Rattle.daybook.specs.declared.entry.alarm.Alarm.{Alarm}
 use Rattle.daybook.specs.declared.entry.unwatched.Unwatched.{Unwatched}
 use Rattle.edetector.specs.Monitors.{Standing}
@@ -13,7 +14,7 @@ use Rattle.playback.specs.Watch.{Watch, Places}
 abbrev pub watch_of : Standing → Rest → Books → Watch
 watch_of s rest books = record { standing = s; last = rest.last; counts = rest.counts; alarms = entries_of books.alarms.now; unwatched = entries_of books.unwatched.now }
 
-abbrev pub places_in : Book Alarm → Book Unwatched → Places
+abbrev pub places_in : {K : Keyed Alarm} {L : Keyed Unwatched} → Book Alarm K → Book Unwatched L → Places
 places_in alarms unwatched = record { alarms = places_of alarms; unwatched = places_of unwatched }
 
 -- the places of the two books that were lent
@@ -28,7 +29,7 @@ pub record NothingYet (rest : Rest) (books : Books) : Type 0 where
   pub unwatched : entries_of books.unwatched.now ≡ []
 
 -- a book as it was, but for entries that may have been added
-pub record Grows {X : Type 0} (before after : Book X) : Type 0 where
+pub record Grows {X : Type 0} {K : Keyed X} (before after : Book X K) : Type 0 where
   pub kept : Keeps before after
   pub more : length (entries_of before) ≤ length (entries_of after)
 

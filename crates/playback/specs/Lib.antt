@@ -1,5 +1,6 @@
 pub mod Accepted
 pub mod Course
+pub mod Days
 pub mod Figures
 pub mod Front
 pub mod Held

@@ -5,7 +5,8 @@ use Rattle.edetector.specs.Tables.{is_within}
 use Rattle.edetector.specs.Rules.{most_threshold, shiryaev_roberts, page}
 use Rattle.edetector.specs.Bettors.{Meaning, fixed_meaning, adaptive_meaning, mixture_meaning}
 use Rattle.edetector.specs.Monitors.{Terms, terms, first_standing, read_outcome}
-use Rattle.plantlog.specs.declared.fault.RecordFault.TheVariants.{NoneLeft}
+use Rattle.plantlog.specs.declared.fault.FrontFault.TheVariants.{NoneLeft}
+use Rattle.plantlog.specs.declared.fault.RecordFault.TheVariants.{Front}
 use Rattle.plantlog.specs.declared.record.Setup.{Setup}
 use Rattle.plantlog.specs.declared.record.BettorChoice.{BettorChoice}
 use Rattle.plantlog.specs.declared.record.BettorChoice.TheVariants.{Fixed, Adaptive, Mixture}
@@ -18,6 +19,7 @@ use Rattle.playback.specs.declared.stop.ReplayFault.{ReplayFault}
 use Rattle.playback.specs.declared.stop.ReplayFault.TheVariants.{Record, Value, TooLong}
 use Rattle.playback.specs.declared.stop.Fault.{Fault}
 use Rattle.daybook.specs.declared.book.Book.{Book}
+use Rattle.daybook.specs.declared.entry.Keyed.{Ghosts as Keyed}
 use Rattle.daybook.specs.declared.entry.alarm.Alarm.{Alarm}
 use Rattle.daybook.specs.declared.entry.unwatched.Unwatched.{Unwatched}
 use Rattle.daybook.specs.Books.{entries_of}
@@ -34,7 +36,7 @@ pub record Replay : Type 0 where
   pub unwatched : List Unwatched
 
 -- the report with what the books hold
-abbrev pub replay_told : Result Run Fault → Book Alarm → Book Unwatched → Replay
+abbrev pub replay_told : {K : Keyed Alarm} {L : Keyed Unwatched} → Result Run Fault → Book Alarm K → Book Unwatched L → Replay
 replay_told report alarms unwatched = record { said = report; alarms = entries_of alarms; unwatched = entries_of unwatched }
 
 abbrev pub rule_base : RuleChoice → ℕ → ℕ
@@ -43,7 +45,7 @@ rule_base Page = page
 
 -- the first record of a stream, or why there is none; how many bytes it takes; what follows
 abbrev pub head_of : Stream → Result Fields ReplayFault
-head_of Over = Err (Record NoneLeft)
+head_of Over = Err (Record (Front NoneLeft))
 head_of (Broken e) = Err (Record e)
 head_of (Next f n rest) = Ok f
 

@@ -1,7 +1,8 @@
 -- A replay: the log's records, one after the other, until its end or the first fault.
 use Rattle.std.specs.Prelude.{ℕ, ◌+◌, Some, None, Ok, Err, Option, Result}
 use Rattle.edetector.specs.Monitors.{Terms}
-use Rattle.plantlog.specs.declared.fault.RecordFault.TheVariants.{NoneLeft}
+use Rattle.plantlog.specs.declared.fault.FrontFault.TheVariants.{NoneLeft}
+use Rattle.plantlog.specs.declared.fault.RecordFault.TheVariants.{Front}
 use Rattle.plantlog.specs.Format.{Count, Rearm, End}
 use Rattle.playback.specs.declared.stop.ReplayFault.{ReplayFault}
 use Rattle.playback.specs.declared.stop.ReplayFault.TheVariants.{Record, NotAllowed, Trailing}
@@ -44,18 +45,18 @@ abbrev pub went : Spot → (Watch → Finish) → Result (Unit {0}) ReplayFault 
 went at go (Ok u) w = go w
 went at go (Err f) w = stopped w (fault_at at f)
 
--- nothing may follow the end
+-- an end has to be the last of a log
 abbrev pub at_end : Stream → Spot → Watch → Finish
 at_end Over at w = stopped w None
 at_end (Broken e) at w = stopped w (fault_at at Trailing)
 at_end (Next f n rest) at w = stopped w (fault_at at Trailing)
 
--- counts and rearms in any number, then an end
+-- what is left of a log behind its header: each count and rearm in its turn, up to the end or a fault
 abbrev pub watching : Terms → Places → Stream → Spot → Watch → Finish
-watching t p Over at w = stopped w (fault_at at (Record NoneLeft))
+watching t p Over at w = stopped w (fault_at at (Record (Front NoneLeft)))
 watching t p (Broken e) at w = stopped w (fault_at at (Record e))
-watching t p (Next (Count day count) n rest) at w =
-    let d = count_read t p w at.number day count in went at (watching t p rest (behind at n)) d.answer d.after
+watching t p (Next (Count head count) n rest) at w =
+    let d = count_read t p w at.number head.day count in went at (watching t p rest (behind at n)) d.answer d.after
 watching t p (Next Rearm n rest) at w = let d = rearm_read t w in went at (watching t p rest (behind at n)) d.answer d.after
 watching t p (Next (End counts) n rest) at w = let d = end_read w counts in went at (at_end rest (behind at n)) d.answer d.after
 watching t p (Next _ n rest) at w = stopped w (fault_at at NotAllowed)

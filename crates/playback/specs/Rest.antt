@@ -1,6 +1,6 @@
 -- What is left of a log, and what was in the part that a replay moved past.
-use Rattle.std.specs.Prelude.{ℕ, ◌+◌, List, drop, if◌then◌else◌, length, nat_le, Some, None, Ok, Err, Option, Result}
-use Rattle.plantlog.specs.Calls.{span}
+use Rattle.std.specs.Prelude.{ℕ, ◌+◌, List, if◌then◌else◌, length, nat_le, Some, None, Ok, Err, Option, Result}
+use Rattle.plantlog.specs.Calls.{span, rest_behind}
 use Rattle.playback.specs.declared.stop.Fault.{Fault}
 use Rattle.playback.specs.declared.stop.ReplayFault.{ReplayFault}
 use Rattle.playback.specs.declared.stop.ReplayFault.TheVariants.{TooLong}
@@ -27,7 +27,7 @@ taken_whole log = if nat_le (length log) longest then Ok (whole log) else Err (f
 
 -- behind a record in front that is no count, or that is a count of the day
 abbrev pub behind_record : Rest → Rest
-behind_record r = record r { left = drop (span r.left) r.left; at = behind r.at (span r.left) }
+behind_record r = record r { left = rest_behind r.left; at = behind r.at (span r.left) }
 
 abbrev pub behind_count : ℕ → Rest → Rest
 behind_count day r = record (behind_record r) { last = Some day; counts = r.counts + 1 }

@@ -12,7 +12,8 @@ use Rattle.playback.specs.declared.stop.ReplayFault.{ReplayFault}
 use Rattle.playback.specs.declared.stop.ReplayFault.TheVariants.{Monitor, Book, DayNotAbove, CountsDiffer}
 use Rattle.daybook.specs.declared.fault.BookFault.TheVariants.{Full}
 use Rattle.daybook.specs.declared.entry.unwatched.Unwatched.{Unwatched}
-use Rattle.daybook.specs.Books.{all_used, above}
+use Rattle.daybook.specs.Books.{all_used}
+use Rattle.playback.specs.Days.{is_after}
 use Rattle.daybook.specs.declared.entry.alarm.Alarm.{Alarm}
 
 -- the monitor, the last count's day, how many counts there were, and what the two books hold
@@ -94,7 +95,7 @@ by_state Staked t p w number day count = if all_used p.alarms w.alarms then faul
 by_state Rung t p w number day count = if all_used p.unwatched w.unwatched then faulted w (Book Full) else passed w number day
 
 abbrev pub count_read : Terms → Places → Watch → ℕ → ℕ → ℕ → Done
-count_read t p w number day count = if above w.last day then by_state w.standing.state t p w number day count else faulted w DayNotAbove
+count_read t p w number day count = if is_after w.last day then by_state w.standing.state t p w number day count else faulted w DayNotAbove
 
 -- the monitor's own answer and what it leaves
 abbrev pub rearm_leads : Terms → Standing → Outcome (Result (Unit {0}) ReplayFault)

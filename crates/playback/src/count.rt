@@ -3,9 +3,9 @@
 // take the record's two ways as closures.
 ghost use Rattle.std.specs.Prelude.{◌≡◌, Ok};
 ghost use Rattle.edetector.specs.Monitors.{view, terms_of};
-ghost use Rattle.plantlog.specs.declared.record.Kind.TheVariants.{Count as ACount};
+ghost use Rattle.plantlog.specs.declared.record.Announced.TheVariants.{Count as CountAhead};
 ghost use Rattle.plantlog.specs.Results.{of_ok};
-ghost use Rattle.plantlog.specs.Format.{kind_of};
+ghost use Rattle.plantlog.specs.Format.{announced};
 ghost use Rattle.playback.specs.Front.{next_fields, count_next};
 ghost use Rattle.playback.specs.Held.{watch_of, places_lent, KeepsBooks};
 ghost use Rattle.playback.specs.Rest.{behind_count, moved_if};
@@ -29,7 +29,8 @@ pub(super) fn count<B: Bettor, R: RestartRule>(
     books: &mut Books<'_, '_, '_>,
     day: u32,
 ) -> Result<(), ReplayFault>
-    requires count { of_ok kind_of (next_fields records.old.left) ≡ Ok (ACount day) }
+    requires count { of_ok announced (next_fields records.old.left)
+        ≡ Ok (CountAhead (record { day = day })) }
     requires rises { Rising (watch_of (view B.meaning monitor.old) records.old books.old) }
     ensures does { done result (watch_of (view B.meaning monitor.new) records.new books.new)
         ≡ count_read (terms_of B.meaning R.base monitor.old) (places_lent books.old)

@@ -2,6 +2,7 @@
 ghost use Rattle.std.specs.Prelude.{◌≡◌, ℕ, Err, Result, OnOk, refl};
 ghost use Rattle.plantlog.specs.Format.{Fields, Count as CountFields};
 ghost use Rattle.plantlog.specs.Results.{and_then};
+ghost use Rattle.plantlog.specs.declared.record.CountHead.{CountHead};
 ghost use Rattle.plantlog.specs.Views.{record_said};
 ghost use Rattle.playback.specs.declared.stop.ReplayFault.{ReplayFault};
 ghost use Rattle.playback.specs.declared.stop.ReplayFault.TheVariants.{NotAllowed};
@@ -11,9 +12,9 @@ ghost use Rattle.playback.specs.Rest.{at_spot, behind_record};
 use super::records::Records;
 use super::stop::{Fault, ReplayFault};
 use edetector::table::{AlternativeTable, NullTable};
-use plantlog::record::{Kind, Record, Setup};
+use plantlog::record::{Announced, Record, Setup};
 
-// One of the records of a header. No `TryFrom` of the log's, since that another record is not allowed here is the replay's fault.
+// One of the records of a header. No `TryFrom` of the log's, since it is the replay that wants this record here.
 pub(super) trait HeaderRecord: Copy {
     // what a record says that has to be this one
     ghost only: { Fields → Result Self ReplayFault };
@@ -22,13 +23,13 @@ pub(super) trait HeaderRecord: Copy {
         ensures { result ≡ only (record_said «record») };
 
     // no count is one of them
-    ghost no_count: { (day n : ℕ) → only (CountFields day n) ≡ Err NotAllowed };
+    ghost no_count: { (head : CountHead) (n : ℕ) → only (CountFields head n) ≡ Err NotAllowed };
 }
 
 impl HeaderRecord for NullTable {
     ghost only = { only_table };
 
-    ghost no_count = { λ day n. refl };
+    ghost no_count = { λ head n. refl };
 
     fn from_record(record: Record) -> Result<NullTable, ReplayFault> {
         match record {
@@ -41,7 +42,7 @@ impl HeaderRecord for NullTable {
 impl HeaderRecord for Setup {
     ghost only = { only_setup };
 
-    ghost no_count = { λ day n. refl };
+    ghost no_count = { λ head n. refl };
 
     fn from_record(record: Record) -> Result<Setup, ReplayFault> {
         match record {
@@ -54,7 +55,7 @@ impl HeaderRecord for Setup {
 impl HeaderRecord for AlternativeTable {
     ghost only = { only_alternative };
 
-    ghost no_count = { λ day n. refl };
+    ghost no_count = { λ head n. refl };
 
     fn from_record(record: Record) -> Result<AlternativeTable, ReplayFault> {
         match record {
@@ -69,9 +70,9 @@ fn next<T: HeaderRecord>(records: &mut Records<'_>) -> Result<T, ReplayFault>
     ensures value { result ≡ and_then (next_fields records.old.left) T.only }
     ensures moved { OnOk result (records.new ≡ behind_record records.old) }
 {
-    match records.next_kind()? {
-        Kind::Count(_) => Err(ReplayFault::NotAllowed),
-        _ => T::from_record(records.read()?),
+    match records.next_told()? {
+        Announced::Count(_) => Err(ReplayFault::NotAllowed),
+        Announced::Other(_) => T::from_record(records.read()?),
     }
 }
 

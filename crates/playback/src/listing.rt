@@ -1,7 +1,6 @@
 // The listing of a replay, by its exact bytes.
 ghost use Rattle.std.specs.Prelude.{◌≡◌, ◌++◌, IfOk, string_bytes, OnOk};
-ghost use Rattle.playback.specs.Listing.{monitor_part, last_part, listing_of};
-ghost use Rattle.playback.specs.Stops.{stop_number, stop_layer};
+ghost use Rattle.playback.specs.Listing.{monitor_line_of, fault_line_of, monitor_part, last_part, listing_of};
 ghost use Rattle.playback.specs.Replayed.{replay_of};
 
 use super::replay::replay;
@@ -17,12 +16,7 @@ use daybook::line::setup::MonitorLine;
 use std::alloc::{AllocError, Global};
 
 impl From<Run> for MonitorLine {
-    ghost from_gives = { λ run line. line ≡ record {
-      classes = run.classes;
-      total = run.total;
-      threshold = run.threshold;
-      rule = run.rule;
-    } };
+    ghost from_gives = { λ run line. line ≡ monitor_line_of run };
 
     fn from(run: Run) -> MonitorLine {
         MonitorLine {
@@ -45,12 +39,7 @@ fn put_monitor(out: &mut String, report: &Result<Run, Fault>) -> Result<(), Allo
 }
 
 impl From<Fault> for FaultLine {
-    ghost from_gives = { λ fault line. line ≡ record {
-      number = stop_number fault.cause;
-      «record» = fault.«record»;
-      byte = fault.byte;
-      layer = stop_layer fault.cause;
-    } };
+    ghost from_gives = { λ fault line. line ≡ fault_line_of fault };
 
     fn from(fault: Fault) -> FaultLine {
         FaultLine {

@@ -1,6 +1,6 @@
 // How far the counts have come.
 ghost use Rattle.std.specs.Prelude.{◌≡◌, ◌+◌, ◌<◌, Some};
-ghost use Rattle.daybook.specs.Books.{above};
+ghost use Rattle.playback.specs.Days.{is_after};
 
 #[derive(Clone, Copy, Debug, PartialEq, Eq)]
 pub(super) struct Progress {
@@ -11,9 +11,9 @@ pub(super) struct Progress {
 }
 
 impl Progress {
-    // Whether the day is above the last count's.
+    // Whether the day is after the last count's.
     pub(super) fn before(&self, day: u32) -> bool
-        ensures { result ≡ above self.now.last day }
+        ensures { result ≡ is_after self.now.last day }
     {
         self.last.is_none_or(|last| last < day)
     }

@@ -1,10 +1,11 @@
 // One watched count: stake, show, settle, and enter the alarm if it rang.
 ghost use Rattle.std.specs.Prelude.{◌≡◌, true, false, Ok};
 ghost use Rattle.edetector.specs.Monitors.{is_fitting, view, terms_of};
-ghost use Rattle.plantlog.specs.declared.record.Kind.TheVariants.{Count as ACount};
+ghost use Rattle.plantlog.specs.declared.record.Announced.TheVariants.{Count as CountAhead};
 ghost use Rattle.plantlog.specs.Results.{of_ok};
-ghost use Rattle.plantlog.specs.Format.{kind_of};
-ghost use Rattle.daybook.specs.Books.{entries_of, places_of, all_used, above_in};
+ghost use Rattle.plantlog.specs.Format.{announced};
+ghost use Rattle.daybook.specs.Books.{entries_of, places_of, all_used};
+ghost use Rattle.daybook.specs.Keys.{above_in};
 ghost use Rattle.playback.specs.Front.{next_fields, count_next};
 ghost use Rattle.playback.specs.Held.{Grows};
 ghost use Rattle.playback.specs.Rest.{behind_count, moved_if};
@@ -60,7 +61,8 @@ pub(super) fn watch_count<B: Bettor, R: RestartRule>(
     alarms: &mut Book<'_, Alarm>,
     day: u32,
 ) -> Result<(), ReplayFault>
-    requires count { of_ok kind_of (next_fields records.old.left) ≡ Ok (ACount day) }
+    requires count { of_ok announced (next_fields records.old.left)
+        ≡ Ok (CountAhead (record { day = day })) }
     requires room { all_used (places_of alarms.old) (entries_of alarms.old) ≡ false }
     requires rises { above_in (λ a. a.day) (entries_of alarms.old) day ≡ true }
     ensures does { leads result (view B.meaning monitor.new) (entries_of alarms.new)

@@ -1,4 +1,4 @@
-// Where a record begins, or would begin.
+// A place in a log at which a record is looked for.
 ghost use Rattle.std.specs.Prelude.{◌≡◌};
 ghost use Rattle.playback.specs.Replaying.{fault_in};
 

@@ -1,9 +1,10 @@
 // A rearm record, and the end.
 ghost use Rattle.std.specs.Prelude.{◌≡◌, Ok};
 ghost use Rattle.edetector.specs.Monitors.{outcome, view, terms_of};
-ghost use Rattle.plantlog.specs.declared.record.Kind.TheVariants.{Rearm as ARearm, End as AnEnd};
+ghost use Rattle.plantlog.specs.declared.record.Announced.TheVariants.{Other as OtherAhead};
+ghost use Rattle.plantlog.specs.declared.record.RecordKind.TheVariants.{Rearm as ARearm, End as AnEnd};
 ghost use Rattle.plantlog.specs.Results.{of_ok};
-ghost use Rattle.plantlog.specs.Format.{kind_of};
+ghost use Rattle.plantlog.specs.Format.{announced};
 ghost use Rattle.playback.specs.Front.{next_fields, end_next};
 ghost use Rattle.playback.specs.Rest.{behind_record};
 ghost use Rattle.playback.specs.Watch.{rearm_leads, end_answer};
@@ -19,7 +20,7 @@ pub(super) fn rearm<B: Bettor, R: RestartRule>(
     records: &mut Records<'_>,
     monitor: &mut Monitor<B, R>,
 ) -> Result<(), ReplayFault>
-    requires { of_ok kind_of (next_fields records.old.left) ≡ Ok ARearm }
+    requires { of_ok announced (next_fields records.old.left) ≡ Ok (OtherAhead ARearm) }
     ensures does { outcome result (view B.meaning monitor.new)
         ≡ rearm_leads (terms_of B.meaning R.base monitor.old) (view B.meaning monitor.old) }
     ensures moved { records.new ≡ behind_record records.old }
@@ -32,15 +33,15 @@ pub(super) fn rearm<B: Bettor, R: RestartRule>(
 
 // The end names the number of counts before it.
 pub(super) fn end(records: &mut Records<'_>) -> Result<(), ReplayFault>
-    requires { of_ok kind_of (next_fields records.old.left) ≡ Ok AnEnd }
+    requires { of_ok announced (next_fields records.old.left) ≡ Ok (OtherAhead AnEnd) }
     ensures value { result
         ≡ end_answer records.old.counts (end_next (next_fields records.old.left)) }
     ensures moved { records.new ≡ behind_record records.old }
 {
-    let Record::End(n) = records.read()? else {
+    let Record::End { counts } = records.read()? else {
         return unreachable();
     };
-    if n as usize != records.counts() {
+    if counts as usize != records.counts() {
         return Err(ReplayFault::CountsDiffer);
     }
     Ok(())

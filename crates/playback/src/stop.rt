@@ -15,19 +15,19 @@ pub enum ReplayFault {
     Value(ValueFault),
     Monitor(MonitorFault),
     Book(BookFault),
-    // the record is not allowed here
+    // a record of a kind that has no place at this point of a log
     NotAllowed,
-    // the day is not above the last count's
+    // a count whose day does not come after that of the count before it
     DayNotAbove,
-    // the end's number is not that of the counts
+    // an end that tells another number of counts than were read
     CountsDiffer,
-    // bytes follow the end
+    // a log that goes on behind its end
     Trailing,
-    // the log is longer than 65,536 bytes
+    // a log of more than 65,536 bytes
     TooLong,
 }
 
-// A fault with the record, from 1, and the byte, from 0, where that record begins or would begin.
+// A fault, with the number of the record that it is about, counted from 1, and how many bytes of the log lie before that.
 #[derive(Clone, Copy, Debug, PartialEq, Eq)]
 pub struct Fault {
     pub cause: ReplayFault,

@@ -15,7 +15,7 @@ use super::stop::{Fault, ReplayFault};
 use edetector::bettor::Bettor;
 use edetector::monitor::Monitor;
 use edetector::rule::RestartRule;
-use plantlog::record::Kind;
+use plantlog::record::{Announced, RecordKind};
 
 // The next record; whether more may follow it.
 // What it leaves alone (`terms`, `kept`) each call below says of what it is lent: a struct of monitor and books would say it as
@@ -34,15 +34,17 @@ fn step<B: Bettor, R: RestartRule>(
     ensures terms { terms_of B.meaning R.base monitor.new ≡ terms_of B.meaning R.base monitor.old }
     ensures kept { KeepsBooks books.old books.new }
 {
-    match records.next_kind()? {
-        Kind::Count(day) => count(records, monitor, books, day).and(Ok(true)),
-        Kind::Rearm => rearm(records, monitor).and(Ok(true)),
-        Kind::End => end(records).and(Ok(false)),
-        _ => Err(ReplayFault::NotAllowed),
+    match records.next_told()? {
+        Announced::Count(head) => count(records, monitor, books, head.day).and(Ok(true)),
+        Announced::Other(kind) => match kind {
+            RecordKind::Rearm => rearm(records, monitor).and(Ok(true)),
+            RecordKind::End => end(records).and(Ok(false)),
+            _ => Err(ReplayFault::NotAllowed),
+        },
     }
 }
 
-// Whether bytes follow the end.
+// The fault of what stands behind the end, if anything does.
 fn after_end(records: &Records<'_>) -> Option<Fault>
     ensures { (w : Watch) → stopped w result ≡ ends_as records.now w }
 {

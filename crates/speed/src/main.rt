@@ -7,8 +7,8 @@
 use daybook::book::Book;
 use daybook::entry::alarm::Alarm;
 use daybook::entry::unwatched::Unwatched;
-use plantlog::reader::Reader;
-use plantlog::record::Kind;
+use plantlog::reader::{RECEIVE_BUFFER, Reader};
+use plantlog::record::Announced;
 use playback::replay::replay;
 use std::env;
 use std::io::Read;
@@ -29,8 +29,8 @@ fn rounds_of(log: &[u8]) -> u64 {
 // The next record is judged and moved past, as a replay does it.
 fn move_past(reader: &mut Reader<'_>, buffer: &mut [u8]) -> bool {
     match reader.ask(buffer) {
-        Ok(Some(Kind::Count(_))) => reader.pass_over(buffer).is_ok(),
-        Ok(Some(_)) => reader.read(buffer).is_ok(),
+        Ok(Some(Announced::Count(_))) => reader.pass_over(buffer).is_ok(),
+        Ok(Some(Announced::Other(_))) => reader.read(buffer).is_ok(),
         _ => false,
     }
 }
@@ -38,7 +38,7 @@ fn move_past(reader: &mut Reader<'_>, buffer: &mut [u8]) -> bool {
 // How many records were moved past before the log's end or the first fault.
 fn records_of(log: &[u8]) -> u64 {
     let mut reader = Reader::new(log);
-    let mut buffer = [0u8; 63];
+    let mut buffer = [0u8; RECEIVE_BUFFER];
     (0..log.len())
         .take_while(|_| move_past(&mut reader, &mut buffer))
         .count() as u64

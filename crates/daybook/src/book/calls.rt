@@ -1,17 +1,18 @@
 // How a book is made, filled, read and emptied.
 ghost use Rattle.std.specs.Prelude.{◌≡◌, [], ◌∷◌, ◌++◌, length, OnOk, OnErr};
-ghost use Rattle.daybook.specs.Books.{entries_of, unused_of, places_of, all_used, above_in, enter_answer, Keeps};
+ghost use Rattle.daybook.specs.Books.{entries_of, unused_of, places_of, lender_of, all_used, enter_answer, Keeps};
+ghost use Rattle.daybook.specs.Keys.{KeysRise, above_in};
 
 use super::Book;
-use crate::entry::Dated;
+use crate::entry::Keyed;
 use crate::fault::BookFault;
 
-impl<'a, E: Dated + Copy> Book<'a, E> {
+impl<'a, E: Keyed + Copy> Book<'a, E> {
     // An empty book over the caller's places.
     pub fn new(places: &'a mut [E]) -> Book<'a, E>
         ensures entries { entries_of result ≡ [] }
         ensures unused { unused_of result ≡ places.old }
-        ensures lender { result.places.ghost_name ≡ places.entry.ghost_name }
+        ensures lender { lender_of result ≡ places.entry.ghost_name }
     {
         Book { places, used: 0 }
     }
@@ -27,7 +28,7 @@ impl<'a, E: Dated + Copy> Book<'a, E> {
             return Err(BookFault::Full);
         }
         if !self.may_follow(&e) {
-            return Err(BookFault::DayNotAbove);
+            return Err(BookFault::KeyNotAbove);
         }
         self.places[self.used] = e;
         self.used += 1;
@@ -47,7 +48,8 @@ impl<'a, E: Dated + Copy> Book<'a, E> {
     }
 
     pub fn entries(&self) -> &[E]
-        ensures { result.now ≡ entries_of self.now }
+        ensures value { result.now ≡ entries_of self.now }
+        ensures rising { KeysRise E.key result.now }
     {
         &self.places[..self.used]
     }
@@ -60,12 +62,12 @@ impl<'a, E: Dated + Copy> Book<'a, E> {
         self.used = 0;
     }
 
-    // Whether the day of e is above the last entry's.
+    // Whether the key of e is above the last entry's.
     fn may_follow(&self, e: &E) -> bool
         ensures { result ≡ above_in E.key (entries_of self.now) (E.key e.now) }
     {
         self.entries()
             .last()
-            .is_none_or(|last| last.day() < e.day())
+            .is_none_or(|last| last.key() < e.key())
     }
 }

@@ -1,5 +1,5 @@
 // An alarm: its day and round, and the ledger that rang.
-use super::Dated;
+use super::Keyed;
 use edetector::wealth::Wealth;
 
 #[derive(Clone, Copy, Debug, PartialEq, Eq, Default)]
@@ -9,10 +9,10 @@ pub struct Alarm {
     pub ledger: Wealth,
 }
 
-impl Dated for Alarm {
+impl Keyed for Alarm {
     ghost key = { λ a. a.day };
 
-    fn day(&self) -> u32 {
-        self.day
+    fn key(&self) -> u64 {
+        u64::from(self.day)
     }
 }

@@ -1,5 +1,5 @@
 // A day whose count was passed over, and the number of its record.
-use super::Dated;
+use super::Keyed;
 
 #[derive(Clone, Copy, Debug, PartialEq, Eq, Default)]
 pub struct Unwatched {
@@ -7,10 +7,10 @@ pub struct Unwatched {
     pub record: usize,
 }
 
-impl Dated for Unwatched {
+impl Keyed for Unwatched {
     ghost key = { λ u. u.day };
 
-    fn day(&self) -> u32 {
-        self.day
+    fn key(&self) -> u64 {
+        u64::from(self.day)
     }
 }

@@ -12,7 +12,7 @@ pub struct EndLine {
 }
 
 impl fmt::Display for EndLine {
-    ghost output = { λ e. Some (end_line e.rounds e.alarms e.unwatched) };
+    ghost output = { λ e. Some (end_line e) };
 
     fn fmt<W: fmt::Write>(&self, f: &mut fmt::Formatter<W>) -> fmt::Result {
         let EndLine {

@@ -1,4 +1,4 @@
-// The line of a fault: its number, the record and the byte where that record begins, and the place of the check.
+// The line that tells why a replay stopped, and where.
 ghost use Rattle.std.specs.Prelude.{Some};
 ghost use Rattle.daybook.specs.Lines.{layer_text, fault_line};
 
@@ -38,7 +38,7 @@ pub struct FaultLine {
 }
 
 impl fmt::Display for FaultLine {
-    ghost output = { λ l. Some (fault_line l.number l.«record» l.byte l.layer) };
+    ghost output = { λ l. Some (fault_line l) };
 
     fn fmt<W: fmt::Write>(&self, f: &mut fmt::Formatter<W>) -> fmt::Result {
         let FaultLine {

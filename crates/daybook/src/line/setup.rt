@@ -29,7 +29,7 @@ pub struct MonitorLine {
 }
 
 impl fmt::Display for MonitorLine {
-    ghost output = { λ m. Some (monitor_line m.classes m.total m.threshold m.rule) };
+    ghost output = { λ m. Some (monitor_line m) };
 
     fn fmt<W: fmt::Write>(&self, f: &mut fmt::Formatter<W>) -> fmt::Result {
         let MonitorLine {

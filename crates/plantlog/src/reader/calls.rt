@@ -1,17 +1,17 @@
-// The calls of a reader. The receive buffer is zero after each, and a refused call leaves the reader as it was: each call says
-// so, as it is what each promises.
-ghost use Rattle.std.specs.Prelude.{◌≡◌, ◌+◌, ◌-◌, ◌<◌, ◌≤◌, length, MatchResult};
+// The calls of a reader. That no byte of a count stays behind, and that a refusal moves nothing, each call promises for itself.
+ghost use Rattle.std.specs.Prelude.{◌≡◌, ◌+◌, ◌-◌, ◌<◌, ◌≤◌, ◌↔◌, [], length, MatchResult};
 ghost use Rattle.plantlog.specs.Bytes.{zeros};
 ghost use Rattle.plantlog.specs.Results.{of_ok};
 ghost use Rattle.plantlog.specs.Views.{record_said, parsed_said};
+ghost use Rattle.plantlog.specs.FirstRecord.{longest_body};
 ghost use Rattle.plantlog.specs.Calls.{span, asked, next_in, next_count, next_other};
-ghost use Rattle.plantlog.specs.Laws.{ReadBack, WrittenSo, LeftBehind, LogReadBack, LogWrittenSo, OneWriting};
-ghost use Rattle.plantlog.specs.Slips.{shown_to, fault_of};
-ghost use Rattle.plantlog.specs.Position.{position, log_of, left_in, behind, moved};
+ghost use Rattle.plantlog.specs.Laws.{ReadBack, WrittenSo, RefusedSo, SoRefused, CallsRefusedSo, SoCallsRefused, WorkedRefusals, LogReadBack, LogWrittenSo, OneWriting};
+ghost use Rattle.plantlog.specs.Slips.{shown_to};
+ghost use Rattle.plantlog.specs.Position.{position, log_of, left_in, left_after, behind, moved};
 
 use super::super::fault::RecordFault;
 use super::super::judge::{JudgedCount, judge_next, wiped};
-use super::super::record::{Kind, Parsed, Record};
+use super::super::record::{Announced, Parsed, Record, RecordKind};
 use super::{Reader, Unshown};
 use edetector::slip::{OpenSlip, ShownSlip};
 
@@ -24,7 +24,9 @@ impl<'a> Reader<'a> {
         ensures one_writing { OneWriting }
         ensures back { ReadBack }
         ensures all_back { LogReadBack }
-        ensures behind { LeftBehind }
+        ensures refused { RefusedSo × SoRefused }
+        ensures calls_refused { CallsRefusedSo × SoCallsRefused }
+        ensures figures { WorkedRefusals }
     {
         Reader {
             log,
@@ -34,31 +36,33 @@ impl<'a> Reader<'a> {
         }
     }
 
-    // Judges the next record whole and tells its kind, or that none is left, and does not move on.
+    // What stands next, after all of it was checked; the reader stays where it is.
     #[inline(always)]
-    pub fn ask(&mut self, buf: &mut [u8]) -> Result<Option<Kind>, RecordFault>
+    pub fn ask(&mut self, buf: &mut [u8]) -> Result<Option<Announced>, RecordFault>
         ensures zero { buf.new ≡ zeros buf.old }
         ensures value { result ≡ asked (length buf.old) (left_in self.old) }
+        ensures none { (result ≡ Ok None)
+            ↔ ((longest_body ≤ length buf.old) × (left_in self.old ≡ [])) }
         ensures same { self.new ≡ self.old }
     {
-        if self.place == self.log.len() {
+        if self.is_over() {
             wiped(buf)?;
             return Ok(None);
         }
         let (parsed, span) = judge_next(&self.log[self.place..], buf)?;
-        let (kind, judged) = match parsed {
-            Parsed::Count { day, count } => {
-                (Kind::Count(day), Some(JudgedCount { day, count, span }))
+        let (told, judged) = match parsed {
+            Parsed::Count { head, count } => {
+                (Announced::Count(head), Some(JudgedCount { count, span }))
             }
-            Parsed::Other(record) => (Kind::from(record), None),
+            Parsed::Other(record) => (Announced::Other(RecordKind::from(record)), None),
         };
         self.judged = judged;
-        Ok(Some(kind))
+        Ok(Some(told))
     }
 
     // Moves past the record in front, of so many bytes.
     fn move_past(&mut self, taken: usize)
-        requires whole { taken ≡ span (left_in self.old) }
+        requires spans { taken ≡ span (left_in self.old) }
         requires within { taken ≤ length (left_in self.old) }
         requires some { 1 ≤ taken }
         ensures moved { position self.new ≡ behind (left_in self.old) (position self.old) }
@@ -95,6 +99,7 @@ impl<'a> Reader<'a> {
         ensures zero { buf.new ≡ zeros buf.old }
         ensures value { of_ok record_said result ≡ next_other (length buf.old) (left_in self.old) }
         ensures moved { position self.new ≡ moved result (left_in self.old) (position self.old) }
+        ensures left { left_in self.new ≡ left_after result (left_in self.old) }
         ensures same { log_of self.new ≡ log_of self.old }
     {
         self.next(buf, Parsed::record)
@@ -105,9 +110,10 @@ impl<'a> Reader<'a> {
         ensures zero { buf.new ≡ zeros buf.old }
         ensures value { result ≡ next_count (length buf.old) (left_in self.old) }
         ensures moved { position self.new ≡ moved result (left_in self.old) (position self.old) }
+        ensures left { left_in self.new ≡ left_after result (left_in self.old) }
         ensures same { log_of self.new ≡ log_of self.old }
     {
-        if let Some(JudgedCount { count, span, .. }) = self.judged {
+        if let Some(JudgedCount { count, span }) = self.judged {
             wiped(buf)?;
             self.move_past(span);
             return Ok(count);
@@ -115,11 +121,12 @@ impl<'a> Reader<'a> {
         self.next(buf, Parsed::count)
     }
 
-    // Shows the next record, a count, to an open slip. A refusal hands the slip back: for `?` two closures would have to own it.
+    // The next record, a count, told to an open slip alone. A refusal hands the slip back: for `?` two closures would have to own it.
     pub fn show(&mut self, slip: OpenSlip, buf: &mut [u8]) -> Result<ShownSlip, Unshown>
         ensures zero { buf.new ≡ zeros buf.old }
         ensures value { result ≡ shown_to slip (next_count (length buf.old) (left_in self.old)) }
-        ensures moved { position self.new ≡ moved (fault_of result) (left_in self.old) (position self.old) }
+        ensures moved { position self.new ≡ moved result (left_in self.old) (position self.old) }
+        ensures left { left_in self.new ≡ left_after result (left_in self.old) }
         ensures same { log_of self.new ≡ log_of self.old }
     {
         match self.next_count(buf) {
@@ -128,11 +135,12 @@ impl<'a> Reader<'a> {
         }
     }
 
-    // Moves past the next record, a count, unseen.
+    // Moves past the next record, a count, and tells it to nobody.
     pub fn pass_over(&mut self, buf: &mut [u8]) -> Result<(), RecordFault>
         ensures zero { buf.new ≡ zeros buf.old }
         ensures value { result ≡ of_ok (λ _. tt) (next_count (length buf.old) (left_in self.old)) }
         ensures moved { position self.new ≡ moved result (left_in self.old) (position self.old) }
+        ensures left { left_in self.new ≡ left_after result (left_in self.old) }
         ensures same { log_of self.new ≡ log_of self.old }
     {
         let _ = self.next_count(buf)?;

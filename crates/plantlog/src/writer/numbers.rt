@@ -5,7 +5,7 @@ ghost use Rattle.edetector.specs.Tables.{most_classes, weights_in};
 use edetector::units::Weight;
 
 // A table's numbers: how many weights there are, and then each.
-// A `zip` of the weights with the places behind the first was tried, and its proof did not close.
+// A loop, since it writes a place in each turn.
 pub(super) fn table_numbers(weights: &[Weight], numbers: &mut [u32])
     requires few { length weights.now ≤ most_classes }
     requires room { length numbers.old ≡ length weights.now + 1 }

@@ -1,13 +1,12 @@
 // Numbers and records put into a buffer.
 ghost use Rattle.std.specs.Prelude.{◌≡◌, ◌+◌, ◌-◌, ◌*◌, ◌≤◌, ◌∷◌, ◌++◌, length, drop};
-ghost use Rattle.plantlog.specs.Choices.{kind_number};
-ghost use Rattle.plantlog.specs.Format.{numbers_bytes, framed};
-ghost use Rattle.plantlog.specs.Laws.{Sayable};
+ghost use Rattle.plantlog.specs.Layouts.{kind_byte};
+ghost use Rattle.plantlog.specs.Format.{numbers_bytes, Sayable, framed};
 ghost use Rattle.plantlog.specs.Written.{room_judged, after_write};
 
 use super::super::fault::RecordFault;
 use super::super::number::{group_count, put_number};
-use super::super::record::Kind;
+use super::super::record::RecordKind;
 use edetector::table::MOST_CLASSES;
 
 // The most numbers of a record: how many weights a table has, and each of them.
@@ -21,8 +20,7 @@ fn numbers_size(numbers: &[u32]) -> usize
     numbers.iter().map(|n| group_count(*n)).sum()
 }
 
-// Writes the numbers at the front; the bytes behind them stay. A `fold` over `at` is no plainer: where the next number begins is
-// what `put_number` answers.
+// Writes the numbers at the front; the bytes behind them stay. Where the next number begins is what `put_number` answers.
 fn put_numbers(numbers: &[u32], out: &mut [u8])
     requires { length (numbers_bytes numbers.now) ≤ length out.old }
     ensures { out.new ≡ numbers_bytes numbers.now ++ drop (length (numbers_bytes numbers.now)) out.old }
@@ -34,11 +32,15 @@ fn put_numbers(numbers: &[u32], out: &mut [u8])
 }
 
 // Writes a record at the front if it fits; the bytes behind it stay.
-pub(super) fn put_record(kind: Kind, numbers: &[u32], out: &mut [u8]) -> Result<usize, RecordFault>
+pub(super) fn put_record(
+    kind: RecordKind,
+    numbers: &[u32],
+    out: &mut [u8],
+) -> Result<usize, RecordFault>
     requires { length numbers.now ≤ MOST_NUMBERS }
-    ensures value { result ≡ room_judged (length (framed (kind_number kind ∷ numbers_bytes numbers.now))) (length out.old) }
+    ensures value { result ≡ room_judged (length (framed (kind_byte kind ∷ numbers_bytes numbers.now))) (length out.old) }
     ensures small { Sayable numbers.now }
-    ensures after { out.new ≡ after_write result (framed (kind_number kind ∷ numbers_bytes numbers.now)) out.old }
+    ensures after { out.new ≡ after_write result (framed (kind_byte kind ∷ numbers_bytes numbers.now)) out.old }
 {
     let size = numbers_size(numbers) + 1;
     if out.len() < size + 1 {

@@ -1,7 +1,6 @@
 use Rattle.std.proofs.Common.{Some, sym, ap, ◌∙◌}
 use Rattle.std.proofs.lemmas.Result.{err_from_is_err_and}
-use Rattle.plantlog.specs.Choices.{kind_number}
-use Rattle.plantlog.specs.Format.{of_value}
+use Rattle.plantlog.specs.Layouts.{kind_byte, of_value}
 use Rattle.edetector.specs.Tables.{unless_fault}
 use Rattle.plantlog.proofs.ResultFacts.{unless_ok, unless_err}
 use Rattle.plantlog.proofs.WriteBack.{wrote, refused}
@@ -12,7 +11,7 @@ returns g c =
     let said = c.requires.1 in
     let put = c.put_record.ensures in
     wrote g.said _ _ c.put_record.result c.put_record.new.out c.args.out.now
-    (ap kind_number (sym said.kind))
+    (ap kind_byte (sym said.kind))
     (c.table_numbers.ensures ∙ sym said.numbers)
     (sym (ap (λ f. unless_fault {X = Unit {0}} f tt) (said.limits ∙ ap of_value (unless_ok _ _ _ c.in_ok-new.ensures).0)))
     put.small put.value put.after

@@ -1,6 +1,9 @@
 use Rattle.std.proofs.Common.{refl}
 use Rattle.plantlog.proofs.ReadBack.{read_back}
-use Rattle.plantlog.proofs.WrittenSo.{written_so, left_behind}
+use Rattle.plantlog.proofs.WrittenSo.{written_so}
+use Rattle.plantlog.proofs.CallsRefused.{calls_refused_so, so_calls_refused}
+use Rattle.plantlog.proofs.Worked.{worked}
+use Rattle.plantlog.proofs.Refusing.{refused_so, so_refused}
 use Rattle.plantlog.proofs.LogLaws.{log_read_back, log_written_so, one_writing}
 use Rattle.plantlog.proofs.reader.Reader.new.Goals as goal
 
@@ -13,5 +16,7 @@ returns c = record {
   one_writing = one_writing;
   back = read_back;
   all_back = log_read_back;
-  behind = left_behind;
+  refused = (refused_so, so_refused);
+  calls_refused = (calls_refused_so, so_calls_refused);
+  figures = worked;
 }
