@@ -5,13 +5,17 @@ ghost use Rattle.daybook.specs.Lines.{ended_line, printed_lines, FirstLinesPut};
 use std::alloc::AllocError;
 use std::fmt::Display;
 
+// A line's text begins with room for so many bytes, more than any line of a listing has. A longer one makes more room.
+const LINE_ROOM: usize = 64;
+
 // The line is made whole in a text of its own first, so that a want of memory leaves no part of it in `out`.
 pub fn put_line<L: Display + Drop>(out: &mut String, line: L) -> Result<(), AllocError>
     ensures put { OnOk result (IfSome (L.output line)
         (λ bs. string_bytes out.new ≡ string_bytes out.old ++ ended_line bs)) }
     ensures untouched { OnErr result (string_bytes out.new ≡ string_bytes out.old) }
 {
-    let text = format!(in *out.allocator(); "{line}\n")?;
+    let mut text = String::with_capacity(*out.allocator(), LINE_ROOM)?;
+    write!(text, "{line}\n")?;
     out.push_str(&text)
 }
 

@@ -24,6 +24,7 @@ impl<'a> Reader<'a> {
     pub fn records(&self) -> usize
         ensures value { result ≡ (position self.now).records }
         ensures few { result ≤ length (log_of self.now) }
+        ensures passed { result ≤ (position self.now).place }
     {
         self.records
     }
