@@ -5,7 +5,7 @@ ghost use Rattle.daybook.specs.Lines.{ended_line, printed_lines, FirstLinesPut};
 use std::alloc::AllocError;
 use std::fmt::Display;
 
-// A line's text begins with room for so many bytes, more than any line of a listing has. A longer one makes more room.
+// A line's text begins with room for so many bytes, more than any line of a replay's listing has. A longer one makes more.
 const LINE_ROOM: usize = 64;
 
 // The line is made whole in a text of its own first, so that a want of memory leaves no part of it in `out`.
